@@ -1,0 +1,97 @@
+-- "Both sides of each edge": the starred cases as one table under one theorem, computed from the definitions.
+use mathlib.Core.Bool.{Bool, true, false, not, _&&_, _||_, Bool·beq}
+use mathlib.Core.Path.{_≡_, refl}
+use mathlib.Core.List.{List, [], _∷_}
+use Prim.Native.Nat.{ℕ}
+use lib.ListN.{getD, set, replicate}
+use lib.Dec.{eqb}
+use Rattle.words.specs.Vocab.{all, any, fill, choose}
+use Rattle.rules.specs.Codes.{shared, sole, badTree, badEvent, wrongPlace, outOfTurn}
+use Rattle.rules.specs.Kinds.{kindLoad, kindStore, kindLoadMiss, kindStoreMiss, kindEvict, kindSendAcquire, kindTakeAcquire, kindSendProbe, kindTakeProbe, kindSendProbeAck, kindTakeGrant, kindSendGrantAck, kindSendGrant, kindTakeGrantAck, kindSendRelease}
+use Rattle.rules.specs.Tree.{treeOk, childIn, leafIn}
+use Rattle.rules.specs.Names.{someIn, noneIn, othersNoneIn, memberIn, nameOf}
+use Rattle.rules.specs.Configuration.{nodeRule, linkRule, pairRule, rowOk, standsRule, serves, nodeOk, configurationOk}
+use Rattle.rules.specs.Events.{otherOk, eventOk, placeRule}
+use Rattle.rules.specs.Settle.{nextPhase, phaseAfter}
+use Rattle.rules.specs.Local.{loadNeeds, storeNeeds, storeTo, missTo, loadMissNeeds, storeMissNeeds, evictNeeds, evictTo}
+use Rattle.rules.specs.Acquire.{asksFrom, sendAcquireNeeds, acquireFor, sendAcquireTo, acquireFits, takeAcquireNeeds, purposeFor, probedFor, takeAcquireTo}
+use Rattle.rules.specs.Probe.{sendProbeNeeds, capFor, sendProbeTo, takeProbeNeeds, probedBy, takeProbeTo, capMet, sendProbeAckNeeds, carried}
+use Rattle.rules.specs.Grant.{grantFits, takeGrantNeeds, grantedRights, installed, takeGrantTo, sendGrantAckNeeds, confirmed, sendGrantAckTo, mayGrant, sendGrantNeeds, grantFor, entryFor, grantValue, sendGrantTo, takeGrantAckNeeds, takeGrantAckTo}
+use Rattle.rules.specs.Release.{sendReleaseNeeds, releaseFor, sendReleaseTo}
+use Rattle.rules.specs.Step.{resetOf, startOf, treeParents, rowOf, judged, stepOf}
+use Rattle.rules.specs.declared.State.{State}
+use Rattle.rules.specs.declared.Event.{Event}
+use Rattle.rules.specs.declared.Answer.{Answer}
+
+abbrev event : ℕ → ℕ → ℕ → ℕ → Event
+event k x o v = record { kind = k; node = x; other = o; value = v }
+
+-- the tree with these parents of nodes 1 upward, at reset with first value 7
+abbrev from : ℕ → List ℕ → Answer
+from n ps = resetOf n (0 ∷ ps) 7
+
+-- a step where all before it was accepted, and otherwise what refused
+abbrev then : Answer → Event → Answer
+then a e = choose (eqb (a .number) 0) (stepOf (a .state) e) a
+
+-- the answer after these events, each taken from the configuration before
+unfoldable pub after : Answer → List Event → Answer
+after a [] = a
+after a (e ∷ es) = after (then a e) es
+
+-- two nodes, and three with two leaves
+abbrev pair : Answer
+pair = from 2 (0 ∷ [])
+
+abbrev fork : Answer
+fork = from 3 (0 ∷ 0 ∷ [])
+
+-- node x misses, and the root serves it
+abbrev served : ℕ → ℕ → ℕ → List Event
+served miss choice x =
+    event miss x 0 0 ∷ event kindSendAcquire x 0 0 ∷ event kindTakeAcquire 0 x 0 ∷ event kindSendGrant 0 choice 0 ∷ event kindTakeGrant x 0 0
+    ∷ event kindSendGrantAck x 0 0 ∷ event kindTakeGrantAck 0 0 0 ∷ []
+
+-- "node 1 TT and dirty with 9: node 2 load-misses, the root takes it (Clear). Node 1 evicts and sends ReleaseData;
+-- the root sends ProbeB, since the purpose is load. Node 1 takes it"
+abbrev lateRelease : List Event
+lateRelease =
+    event kindStore 1 0 9 ∷ event kindLoadMiss 2 0 0 ∷ event kindSendAcquire 2 0 0 ∷ event kindTakeAcquire 0 2 0 ∷ event kindEvict 1 0 0
+    ∷ event kindSendRelease 1 0 0 ∷ event kindSendProbe 0 1 0 ∷ event kindTakeProbe 1 0 0 ∷ []
+
+-- An edge: what leads to it, which has to be accepted, the answer there, and the number that document 01 gives.
+pub record Edge : Type 0 where
+  pub before : Answer
+  pub answer : Answer
+  pub number : ℕ
+
+-- an edge of reset, and one of a step
+abbrev at-reset : Answer → ℕ → Edge
+at-reset a n = record { before = pair; answer = a; number = n }
+
+abbrev at-step : Answer → Event → ℕ → Edge
+at-step a e n = record { before = a; answer = stepOf (a .state) e; number = n }
+
+abbrev pub starred : List Edge
+starred =
+    at-reset (from 1 []) badTree
+    ∷ at-reset (from 17 (replicate 15 0)) badTree
+    ∷ at-reset (from 4 (0 ∷ 0 ∷ 2 ∷ [])) 0
+    ∷ at-reset (from 4 (0 ∷ 0 ∷ 3 ∷ [])) badTree
+    ∷ at-step pair (event 0 1 0 0) badEvent
+    ∷ at-step pair (event 20 1 0 0) badEvent
+    ∷ at-step pair (event kindLoad 0 0 0) wrongPlace
+    ∷ at-step pair (event kindEvict 0 0 0) wrongPlace
+    ∷ at-step pair (event kindLoad 1 0 0) outOfTurn
+    ∷ at-step (after pair (served kindLoadMiss shared 1)) (event kindStore 1 0 9) outOfTurn
+    ∷ at-step (after pair (served kindStoreMiss sole 1)) (event kindStore 1 0 9) 0
+    ∷ at-step (after (after fork (served kindStoreMiss sole 1)) lateRelease) (event kindSendProbeAck 1 0 0) outOfTurn
+    ∷ []
+
+abbrev pub every : List Edge → Bool
+every [] = true
+every (r ∷ rs) = eqb (r .before .number) 0 && eqb (r .answer .number) (r .number) && every rs
+
+pub edges : every starred ≡ true
+unfolding after all any fill choose treeOk childIn leafIn someIn noneIn othersNoneIn memberIn nameOf nodeRule linkRule pairRule rowOk standsRule serves nodeOk configurationOk otherOk eventOk placeRule nextPhase phaseAfter loadNeeds storeNeeds storeTo missTo loadMissNeeds storeMissNeeds evictNeeds evictTo asksFrom sendAcquireNeeds acquireFor sendAcquireTo acquireFits takeAcquireNeeds purposeFor probedFor takeAcquireTo sendProbeNeeds capFor sendProbeTo takeProbeNeeds probedBy takeProbeTo capMet sendProbeAckNeeds grantFits takeGrantNeeds grantedRights installed takeGrantTo sendGrantAckNeeds confirmed sendGrantAckTo mayGrant sendGrantNeeds grantFor entryFor grantValue sendGrantTo takeGrantAckNeeds takeGrantAckTo sendReleaseNeeds releaseFor sendReleaseTo carried resetOf startOf treeParents rowOf judged stepOf
+edges = refl

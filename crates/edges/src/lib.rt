@@ -1,0 +1,1 @@
+// The starred cases of document 01, proved from the definitions. No code.

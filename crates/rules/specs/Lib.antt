@@ -1,0 +1,17 @@
+-- The rules of document 01, in its order. Codes and cells first; then number 1 (Tree), names, number 2 (Configuration),
+-- numbers 3 and 4 (Events), settle, the rows of the event table by groups, and the step.
+pub mod Codes
+pub mod Kinds
+pub mod With
+pub mod Cells
+pub mod Tree
+pub mod Names
+pub mod Configuration
+pub mod Events
+pub mod Settle
+pub mod Local
+pub mod Acquire
+pub mod Probe
+pub mod Grant
+pub mod Release
+pub mod Step

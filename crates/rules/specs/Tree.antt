@@ -1,0 +1,31 @@
+-- The tree: number 1, children and leaves.
+use mathlib.Core.Bool.{Bool, true, false, not, _&&_, _||_}
+use mathlib.Core.List.{List}
+use Prim.Native.Nat.{ℕ}
+use lib.ListN.{getD}
+use lib.Dec.{eqb, leb, ltb}
+use Rattle.words.specs.Vocab.{all, any, choose}
+use Rattle.rules.specs.Codes.{nodes}
+use Rattle.rules.specs.declared.State.{State}
+
+-- "every other node's parent has a smaller number": nothing is asked of the root or beyond the last node
+abbrev pub parentOk : ℕ → List ℕ → ℕ → Bool
+parentOk n ps k = eqb k 0 || leb n k || ltb (getD ps k 0) k
+
+-- number 1: "node count not 2..16, or, from node 1 upward, a parent not smaller than its node"
+unfoldable pub treeOk : ℕ → List ℕ → Bool
+treeOk n ps = leb 2 n && leb n nodes && all (parentOk n ps) nodes
+
+-- k is a node of the tree other than the root, and x is its parent
+unfoldable pub childIn : ℕ → List ℕ → ℕ → ℕ → Bool
+childIn n ps x k = choose (ltb k n) (not (eqb k 0) && eqb (getD ps k 0) x) false
+
+-- "A leaf has no child."
+unfoldable pub leafIn : ℕ → List ℕ → ℕ → Bool
+leafIn n ps x = not (any (childIn n ps x) nodes)
+
+abbrev pub isChild : State → ℕ → ℕ → Bool
+isChild s x k = childIn (s .count) (s .parents) x k
+
+abbrev pub isLeaf : State → ℕ → Bool
+isLeaf s x = leafIn (s .count) (s .parents) x

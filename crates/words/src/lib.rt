@@ -1,0 +1,1 @@
+// The words in which the definitions are written, and their laws. No code.
