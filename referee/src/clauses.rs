@@ -103,10 +103,7 @@ impl Breaches {
             self.add(!tree.is_child(child, node), Clause::EntryNotAChild);
             self.add(rights == Some(Rights::N), Clause::EntryAtN);
             let trunk = code == Entry::Trunk.code();
-            self.add(
-                trunk && rights != Some(Rights::Tip),
-                Clause::TrunkBelowTip,
-            );
+            self.add(trunk && rights != Some(Rights::Tip), Clause::TrunkBelowTip);
         }
         let NodeRecord { dirty, value, .. } = record.nodes[node];
         self.add(rights == Some(Rights::N) && dirty, Clause::DirtyAtN);

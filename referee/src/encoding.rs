@@ -1,9 +1,7 @@
 //! A configuration as a record, and back where the record is one.
 
 use crate::clauses::{breaches, Clause};
-use crate::codes::{
-    Acquire, Cap, DownCode, Entry, Phase, Purpose, Rights, UpCode, GRANT_ACK,
-};
+use crate::codes::{Acquire, Cap, DownCode, Entry, Phase, Purpose, Rights, UpCode, GRANT_ACK};
 use crate::configuration::{Configuration, Down, Link, Node, Up};
 use crate::record::{LinkRecord, NodeRecord, Record};
 use crate::tree::Tree;

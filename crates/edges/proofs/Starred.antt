@@ -18,7 +18,7 @@ use Rattle.rules.specs.Acquire.{asksFrom, sendAcquireNeeds, acquireFor, sendAcq
 use Rattle.rules.specs.Probe.{sendProbeNeeds, capFor, sendProbeTo, takeProbeNeeds, probedBy, takeProbeTo, capMet, sendProbeAckNeeds, carried}
 use Rattle.rules.specs.Grant.{grantFits, takeGrantNeeds, grantedRights, installed, takeGrantTo, sendGrantAckNeeds, confirmed, sendGrantAckTo, mayGrant, sendGrantNeeds, grantFor, entryFor, grantValue, sendGrantTo, takeGrantAckNeeds, takeGrantAckTo}
 use Rattle.rules.specs.Release.{sendReleaseNeeds, releaseFor, sendReleaseTo}
-use Rattle.rules.specs.Step.{resetOf, startOf, treeParents, rowOf, judged, stepOf}
+use Rattle.rules.specs.Step.{resetOf, startOf, treeParents, rowOf, judged, stepOf, onwardOf}
 use Rattle.rules.specs.declared.State.{State}
 use Rattle.rules.specs.declared.Event.{Event}
 use Rattle.rules.specs.declared.Answer.{Answer}
@@ -32,7 +32,7 @@ from n ps = resetOf n (0 ∷ ps) 7
 
 -- a step where all before it was accepted, and otherwise what refused
 abbrev then : Answer → Event → Answer
-then a e = choose (eqb (a .number) 0) (stepOf (a .state) e) a
+then a e = choose (eqb (a .number) 0) (onwardOf (a .state) e) a
 
 -- the answer after these events, each taken from the configuration before
 unfoldable pub after : Answer → List Event → Answer
@@ -93,5 +93,5 @@ every [] = true
 every (r ∷ rs) = eqb (r .before .number) 0 && eqb (r .answer .number) (r .number) && every rs
 
 pub edges : every starred ≡ true
-unfolding after all any fill choose treeOk childIn leafIn someIn noneIn othersNoneIn memberIn nameOf nodeRule linkRule pairRule rowOk standsRule serves nodeOk configurationOk otherOk eventOk placeRule nextPhase phaseAfter loadNeeds storeNeeds storeTo missTo loadMissNeeds storeMissNeeds evictNeeds evictTo asksFrom sendAcquireNeeds acquireFor sendAcquireTo acquireFits takeAcquireNeeds purposeFor probedFor takeAcquireTo sendProbeNeeds capFor sendProbeTo takeProbeNeeds probedBy takeProbeTo capMet sendProbeAckNeeds grantFits takeGrantNeeds grantedRights installed takeGrantTo sendGrantAckNeeds confirmed sendGrantAckTo mayGrant sendGrantNeeds grantFor entryFor grantValue sendGrantTo takeGrantAckNeeds takeGrantAckTo sendReleaseNeeds releaseFor sendReleaseTo carried resetOf startOf treeParents rowOf judged stepOf
+unfolding after all any fill choose treeOk childIn leafIn someIn noneIn othersNoneIn memberIn nameOf nodeRule linkRule pairRule rowOk standsRule serves nodeOk configurationOk otherOk eventOk placeRule nextPhase phaseAfter loadNeeds storeNeeds storeTo missTo loadMissNeeds storeMissNeeds evictNeeds evictTo asksFrom sendAcquireNeeds acquireFor sendAcquireTo acquireFits takeAcquireNeeds purposeFor probedFor takeAcquireTo sendProbeNeeds capFor sendProbeTo takeProbeNeeds probedBy takeProbeTo capMet sendProbeAckNeeds grantFits takeGrantNeeds grantedRights installed takeGrantTo sendGrantAckNeeds confirmed sendGrantAckTo mayGrant sendGrantNeeds grantFor entryFor grantValue sendGrantTo takeGrantAckNeeds takeGrantAckTo sendReleaseNeeds releaseFor sendReleaseTo carried resetOf startOf treeParents rowOf judged stepOf onwardOf
 edges = refl

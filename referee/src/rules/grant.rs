@@ -13,10 +13,7 @@ pub const TAKE_GRANT: Rule = Rule {
             s.purpose() != Some(Purpose::Load)
                 || matches!(
                     (s.node().rights, s.link().d),
-                    (
-                        Rights::N,
-                        Some(Down::GrantDataB(_) | Down::GrantDataT(_))
-                    )
+                    (Rights::N, Some(Down::GrantDataB(_) | Down::GrantDataT(_)))
                 )
         }),
         need("store: B with GrantT or N with GrantDataT", |s| {
@@ -72,8 +69,7 @@ pub const SEND_GRANT: Rule = Rule {
             requester.is_none_or(|child| s.configuration.links[child].d.is_none())
         }),
         need("load 0: named B, TT or TB", |s| {
-            !grants(s, Purpose::Load, SHARED)
-                || matches!(s.name(), Name::B | Name::TT | Name::TB)
+            !grants(s, Purpose::Load, SHARED) || matches!(s.name(), Name::B | Name::TT | Name::TB)
         }),
         need("load 1: named TT", |s| {
             !grants(s, Purpose::Load, SOLE) || s.name() == Name::TT

@@ -43,9 +43,7 @@ pub const LOAD_MISS: Rule = Rule {
 
 pub const STORE_MISS: Rule = Rule {
     needs: &[
-        need("leaf N or B", |s| {
-            matches!(s.name(), Name::N | Name::B)
-        }),
+        need("leaf N or B", |s| matches!(s.name(), Name::N | Name::B)),
         MAIN_IDLE,
         OTHERS_IDLE,
     ],

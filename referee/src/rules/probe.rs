@@ -81,11 +81,9 @@ pub const TAKE_PROBE_ACK: Rule = Rule {
             Some(Up::ProbeAck { kept, .. }) => kept.entry() <= s.child_entry(),
             _ => true,
         }),
-        need("data only from a Trunk entry", |s| {
-            match s.child_link().c {
-                Some(Up::ProbeAck { data: Some(_), .. }) => s.child_entry() == Entry::Trunk,
-                _ => true,
-            }
+        need("data only from a Trunk entry", |s| match s.child_link().c {
+            Some(Up::ProbeAck { data: Some(_), .. }) => s.child_entry() == Entry::Trunk,
+            _ => true,
         }),
     ],
     effect: |configuration, act| {
