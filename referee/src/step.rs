@@ -53,7 +53,7 @@ impl fmt::Display for Refusal {
                 Place::NotLeaf => write!(f, "this kind doesn't happen at a leaf"),
                 Place::Anywhere => write!(f, "this kind doesn't happen here"),
             },
-            Refusal::Need(words) => write!(f, "the kind's needs don't hold: {words}"),
+            Refusal::Need(words) => write!(f, "the kind's needs don't hold; it needs \"{words}\""),
         }
     }
 }

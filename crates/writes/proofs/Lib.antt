@@ -1,0 +1,5 @@
+pub mod Put
+pub mod Writes
+pub mod Effects
+pub mod Needs
+pub mod Judged

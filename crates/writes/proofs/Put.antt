@@ -1,0 +1,76 @@
+-- A list with one element written, and a table with one row written: what stands where, and that nothing else moved.
+use mathlib.Core.Path.{_≡_, refl, _∙_, ap}
+use mathlib.Core.Logic.{_≢_}
+use mathlib.Core.List.{List}
+use Prim.Native.Nat.{ℕ, _+_, _*_, _<_, _≤_}
+use native.Mathlib.Decide.{ℕ-discrete}
+use native.Mathlib.Omega.{arith}
+use lib.ListN.{getD, set, length, length-set}
+use lib.Seq.{getD-set-same, getD-set-other}
+use lib.Dec.{eqb}
+use Rattle.words.specs.Vocab.{fill, choose}
+use Rattle.words.proofs.Laws.{length-fill}
+use Rattle.words.proofs.Facts.{choose-at, choose-off, getD-fill-at, getD-fill-off}
+use Rattle.rules.specs.Codes.{nodes, cells}
+use Rattle.rules.specs.Cells.{cell}
+
+module _ {A : Type 0} where
+  -- l′ is l with v at x
+  pub record Put (d : A) (l l′ : List A) (x : ℕ) (v : A) : Type 0 where
+    pub at : getD l′ x d ≡ v
+    pub off : (y : ℕ) → y ≢ x → getD l′ y d ≡ getD l y d
+    pub size : length l′ ≡ length l
+
+  pub same : (d : A) (l : List A) (x : ℕ) → Put d l l x (getD l x d)
+  same d l x = record { at = refl; off = λ y n. refl; size = refl }
+
+  pub put : (d : A) (l : List A) (x : ℕ) (v : A) → x < length l → Put d l (set l x v) x v
+  put d l x v h = record { at = getD-set-same l x v d h; off = λ y n. getD-set-other l x y v d n; size = length-set l x v }
+
+  -- written, and then changed by what stands there
+  pub put-again : (d : A) (l : List A) (x : ℕ) (u : A) (g : A → A) → x < length l → Put d l (set (set l x u) x (g (getD (set l x u) x d))) x (g u)
+  put-again d l x u g h =
+      let w : length (set l x u) ≡ length l = length-set l x u in
+      let b : x < length (set l x u) = omega arith in
+      record {
+        at = getD-set-same (set l x u) x _ d b ∙ ap g (getD-set-same l x u d h);
+        off = λ y n. getD-set-other (set l x u) x y _ d n ∙ getD-set-other l x y u d n;
+        size = length-set (set l x u) x _ ∙ w;
+      }
+
+  -- t′ is t with the row of x as f says
+  pub record Row (d : A) (t t′ : List A) (x : ℕ) (f : ℕ → A) : Type 0 where
+    pub at : (k : ℕ) → k < nodes → getD t′ (cell x k) d ≡ f k
+    pub off : (y k : ℕ) → k < nodes → y ≢ x → getD t′ (cell y k) d ≡ getD t (cell y k) d
+    pub size : length t′ ≡ length t
+
+  pub row-same : (d : A) (t : List A) (x : ℕ) → Row d t t x (λ k. getD t (cell x k) d)
+  row-same d t x = record { at = λ k m. refl; off = λ y k m n. refl; size = refl }
+
+  -- one cell written
+  pub row-put : (d : A) (t : List A) (x k : ℕ) (v : A) → length t ≡ cells → x < nodes → k < nodes
+      → Row d t (set t (cell x k) v) x (λ j. choose (eqb j k) v (getD t (cell x j) d))
+  row-put d t x k v s hx hk = record { at = at; off = off; size = length-set t (cell x k) v }
+    where
+      b : cell x k < length t
+      b = omega arith
+
+      at : (j : ℕ) → j < nodes → getD (set t (cell x k) v) (cell x j) d ≡ choose (eqb j k) v (getD t (cell x j) d)
+      at j hj = go (ℕ-discrete j k)
+        where
+          go : Dec (j ≡ k) → getD (set t (cell x k) v) (cell x j) d ≡ choose (eqb j k) v (getD t (cell x j) d)
+          go (yes e) = rw (choose-at j k v (getD t (cell x j) d) e, e) (getD-set-same t (cell x k) v d b)
+          go (no n) =
+              let o : cell x j ≢ cell x k = omega arith in
+              rw (choose-off j k v (getD t (cell x j) d) n) (getD-set-other t (cell x k) (cell x j) v d o)
+
+      off : (y j : ℕ) → j < nodes → y ≢ x → getD (set t (cell x k) v) (cell y j) d ≡ getD t (cell y j) d
+      off y j hj n = let o : cell y j ≢ cell x k = omega arith in getD-set-other t (cell x k) (cell y j) v d o
+
+  -- the whole row written
+  pub row-fill : (d : A) (t : List A) (x : ℕ) (f : ℕ → A) → length t ≡ cells → x < nodes → Row d t (fill f (x * nodes) nodes t) x f
+  row-fill d t x f s hx = record {
+    at = λ k hk. let b : x * nodes + nodes ≤ length t = omega arith in getD-fill-at f (x * nodes) nodes t d k b hk;
+    off = λ y k hk n. getD-fill-off f (x * nodes) nodes t d (cell y k) (λ i hi. omega arith);
+    size = length-fill f (x * nodes) nodes t;
+  }

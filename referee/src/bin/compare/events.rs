@@ -1,0 +1,157 @@
+//! Random events: those that a configuration accepts, those that it nearly accepts, and any others.
+
+use crate::random::Random;
+use referee::codes::Kind;
+use referee::configuration::Configuration;
+use referee::event::{Event, Other, Place};
+use referee::rules::{rule, Scene};
+use referee::tree::Tree;
+
+/// Every event that numbers 3 and 4 let pass on a tree; stores with value 0.
+pub fn candidates(tree: &Tree) -> Vec<Event> {
+    let mut events = Vec::new();
+    for &kind in Kind::ALL {
+        for node in tree.nodes() {
+            let others: Vec<usize> = match kind.other() {
+                Other::Child => tree.children(node).collect(),
+                Other::SharedOrSole => vec![0, 1],
+                Other::Zero => vec![0],
+            };
+            events.extend(others.into_iter().map(|other| Event {
+                kind: kind.code(),
+                node: node as u8,
+                other: other as u8,
+                value: 0,
+            }));
+        }
+    }
+    events.retain(|event| event.act(tree).is_ok());
+    events
+}
+
+/// The positions of the needs that don't hold, for an event that numbers 3 and 4 let pass.
+pub fn failing(configuration: &Configuration, event: &Event) -> Option<Vec<usize>> {
+    let act = event.act(&configuration.tree).ok()?;
+    let scene = Scene::new(configuration, act);
+    let needs = rule(act.kind).needs;
+    Some(
+        (0..needs.len())
+            .filter(|&need| !(needs[need].holds)(&scene))
+            .collect(),
+    )
+}
+
+/// The candidates with exactly so many needs that don't hold.
+pub fn with_failing(
+    configuration: &Configuration,
+    candidates: &[Event],
+    number: usize,
+) -> Vec<Event> {
+    let mut events = candidates.to_vec();
+    events.retain(|event| {
+        let act = event.act(&configuration.tree).expect("a candidate");
+        let scene = Scene::new(configuration, act);
+        let failing = rule(act.kind)
+            .needs
+            .iter()
+            .filter(|need| !(need.holds)(&scene));
+        failing.take(number + 1).count() == number
+    });
+    events
+}
+
+/// How often each kind is preferred, by its code.
+pub type Weights = [usize; 20];
+
+/// One event, its kind first: by weight, whatever the number of its events.
+pub fn choose(random: &mut Random, events: &[Event], weights: &Weights) -> Option<Event> {
+    let mut kinds: Vec<u8> = events.iter().map(|event| event.kind).collect();
+    kinds.dedup();
+    let total: usize = kinds.iter().map(|&kind| weights[usize::from(kind)]).sum();
+    if total == 0 {
+        return None;
+    }
+    let mut left = random.below(total);
+    let kind = kinds.into_iter().find(|&kind| {
+        let weight = weights[usize::from(kind)];
+        let found = left < weight;
+        left = left.saturating_sub(weight);
+        found
+    })?;
+    let of_kind: Vec<Event> = events
+        .iter()
+        .copied()
+        .filter(|event| event.kind == kind)
+        .collect();
+    let mut event = random.pick(&of_kind);
+    if kind == Kind::Store.code() {
+        event.value = random.value();
+    }
+    Some(event)
+}
+
+/// An event that is as likely accepted, refused by one need alone, or anything.
+pub fn aimed(random: &mut Random, configuration: &Configuration, candidates: &[Event]) -> Event {
+    let number = random.below(4);
+    let chosen = if number < 2 {
+        let events = with_failing(configuration, candidates, number);
+        choose(random, &events, &[1; 20])
+    } else {
+        None
+    };
+    chosen.unwrap_or_else(|| any(random, &configuration.tree))
+}
+
+/// Any event, one in three damaged at one place.
+pub fn any(random: &mut Random, tree: &Tree) -> Event {
+    let kind = random.pick(Kind::ALL);
+    let node = random.below(tree.count());
+    let other = match kind.other() {
+        Other::Child => {
+            let children: Vec<usize> = tree.children(node).collect();
+            match children.is_empty() {
+                true => random.below(tree.count()),
+                false => random.pick(&children),
+            }
+        }
+        Other::SharedOrSole => random.below(2),
+        Other::Zero => 0,
+    };
+    let mut event = Event {
+        kind: kind.code(),
+        node: node as u8,
+        other: other as u8,
+        value: if kind == Kind::Store {
+            random.value()
+        } else {
+            0
+        },
+    };
+    if random.percent(33) {
+        damage(random, tree, &mut event);
+    }
+    event
+}
+
+fn damage(random: &mut Random, tree: &Tree, event: &mut Event) {
+    let count = tree.count() as u8;
+    let anything = random.byte();
+    let places = [0, 1, 2, count - 1, count, 15, 16, 255, anything];
+    match random.below(5) {
+        0 => event.kind = random.pick(&[0, 20, 21, 255, anything]),
+        1 => event.node = random.pick(&places),
+        2 => event.other = random.pick(&places),
+        3 => event.value = random.nonzero(),
+        _ => {
+            let kinds: Vec<Kind> = Kind::ALL
+                .iter()
+                .copied()
+                .filter(|kind| kind.place() != Place::Anywhere)
+                .collect();
+            event.kind = random.pick(&kinds).code();
+            event.node = random.below(tree.count()) as u8;
+            event.other = 0;
+            event.value = 0;
+        }
+    }
+}

@@ -1,0 +1,152 @@
+//! Random trails: good ones, and ones damaged at every kind of place.
+
+use crate::random::Random;
+use crate::trees;
+use crate::walk::Walk;
+use referee::event::Event;
+use referee::trail::{write_record, Trail, LIMIT, VERSION};
+use referee::tree::Tree;
+
+macro_rules! damages {
+    ($($damage:ident: $words:literal),+ $(,)?) => {
+        #[derive(Clone, Copy, Debug, PartialEq, Eq)]
+        pub enum Damage { $($damage),+ }
+
+        impl Damage {
+            pub const ALL: &'static [Damage] = &[$(Damage::$damage),+];
+
+            pub fn words(self) -> &'static str {
+                match self { $(Damage::$damage => $words),+ }
+            }
+        }
+    };
+}
+
+damages! {
+    None: "good",
+    Empty: "missing version",
+    WrongVersion: "wrong version",
+    FirstMissing: "missing first record",
+    FirstLengthCut: "first record: cut short in its length",
+    FirstTooShort: "first record: length below 9",
+    FirstTooLong: "first record: length above 23",
+    FirstCut: "first record: cut short",
+    BadTree: "first record: bad tree",
+    LengthCut: "event: cut short in its length",
+    TooShort: "event: length below 11",
+    TooLong: "event: length above 11",
+    Cut: "event: cut short",
+    EndsAtLimit: "good, and ends at 65,536",
+    BeginsAtLimit: "event: begins at 65,536",
+    LengthCrossesLimit: "event: its length crosses 65,536",
+    CrossesLimit: "event: crosses 65,536",
+    CutAtLimit: "event: crosses 65,536, where the input ends",
+    GoesOn: "good to the limit, and goes on far beyond",
+}
+
+impl Damage {
+    /// These need a trail that fills the first 65,536 bytes.
+    pub fn is_long(self) -> bool {
+        matches!(
+            self,
+            Damage::EndsAtLimit
+                | Damage::BeginsAtLimit
+                | Damage::LengthCrossesLimit
+                | Damage::CrossesLimit
+                | Damage::CutAtLimit
+                | Damage::GoesOn
+        )
+    }
+}
+
+/// A trail with this damage.
+pub fn trail(random: &mut Random, damage: Damage) -> Vec<u8> {
+    if damage.is_long() {
+        return long(random, damage);
+    }
+    let tree = trees::good(random);
+    let first_value = random.value();
+    let most = random.pick(&[0, 1, 5, 40, 200]);
+    let number = random.between(0, most);
+    let events = events(random, tree, first_value, number);
+    let mut bytes = Trail::to_bytes(&tree, first_value, &events);
+    let first_end = 1 + 2 + 8 + (tree.count() - 1);
+    let tail = Trail::to_bytes(&tree, first_value, &events).split_off(first_end);
+    let whole = bytes.len();
+    match damage {
+        Damage::Empty => bytes.clear(),
+        Damage::WrongVersion => bytes[0] = random.pick(&[0, 2, 255]),
+        Damage::FirstMissing => bytes.truncate(1),
+        Damage::FirstLengthCut => bytes.truncate(2),
+        Damage::FirstTooShort => {
+            let length = random.between(0, 8);
+            bytes = with_first(&vec![0; length], &tail);
+        }
+        Damage::FirstTooLong => {
+            let length = random.pick(&[24, 25, 32, 256 + 9, 256 + 23, 4000]);
+            bytes = with_first(&vec![0; length], &tail);
+        }
+        Damage::FirstCut => bytes.truncate(random.between(3, first_end - 1)),
+        Damage::BadTree => {
+            let node = random.between(1, tree.count() - 1);
+            bytes[1 + 2 + 8 + node - 1] = trees::bad_parent(random, node);
+        }
+        Damage::LengthCut => bytes.push(random.pick(&[0, 1, 11])),
+        Damage::TooShort => wrong_length(random, &mut bytes, &tail, &[0, 1, 9, 10]),
+        Damage::TooLong => wrong_length(random, &mut bytes, &tail, &[12, 13, 23, 256, 267, 3000]),
+        Damage::Cut => {
+            write_record(&mut bytes, &[0; 11]);
+            bytes.truncate(random.between(whole + 2, whole + 12));
+        }
+        _ => {}
+    }
+    bytes
+}
+
+/// Version, this first record, and what follows.
+fn with_first(first: &[u8], tail: &[u8]) -> Vec<u8> {
+    let mut bytes = vec![VERSION];
+    write_record(&mut bytes, first);
+    bytes.extend(tail);
+    bytes
+}
+
+/// A record with a wrong length, whole or cut short, and good events after it.
+fn wrong_length(random: &mut Random, bytes: &mut Vec<u8>, tail: &[u8], lengths: &[usize]) {
+    let length = random.pick(lengths);
+    let body: Vec<u8> = (0..length).map(|_| random.byte()).collect();
+    write_record(bytes, &body);
+    bytes.extend(tail);
+}
+
+/// A trail that fills the first 65,536 bytes. The tree's size decides where the last record begins: with 6 nodes
+/// one event ends exactly at the limit, with 5 nodes one begins a byte before it.
+fn long(random: &mut Random, damage: Damage) -> Vec<u8> {
+    let count = match damage {
+        Damage::EndsAtLimit | Damage::BeginsAtLimit => 6,
+        Damage::LengthCrossesLimit => 5,
+        _ => random.pick(&[2, 3, 4, 7, 8, 12, 15, 16]),
+    };
+    let tree = trees::with_count(random, count);
+    let first_value = random.value();
+    let events = events(random, tree, first_value, LIMIT / 13 + 2);
+    let mut bytes = Trail::to_bytes(&tree, first_value, &events);
+    match damage {
+        Damage::EndsAtLimit | Damage::CutAtLimit => bytes.truncate(LIMIT),
+        Damage::BeginsAtLimit => bytes.truncate(LIMIT + random.pick(&[1, 2, 12, 13])),
+        Damage::GoesOn => bytes.resize(random.between(100_000, 300_000), 0),
+        _ => bytes.truncate(LIMIT + random.between(1, 13)),
+    }
+    bytes
+}
+
+fn events(random: &mut Random, tree: Tree, first_value: u64, number: usize) -> Vec<Event> {
+    let mut walk = Walk::new(random, tree, first_value);
+    (0..number)
+        .map(|_| {
+            let event = walk.next_event(random);
+            walk.take(&event);
+            event
+        })
+        .collect()
+}
