@@ -23,12 +23,11 @@ impl Tree {
             count,
             parents: [0; NODES],
         };
-        for node in 1..count {
-            let parent = usize::from(parents[node]);
-            if parent >= node {
+        for (node, &parent) in parents.iter().enumerate().take(count).skip(1) {
+            tree.parents[node] = usize::from(parent);
+            if tree.parents[node] >= node {
                 return None;
             }
-            tree.parents[node] = parent;
         }
         Some(tree)
     }

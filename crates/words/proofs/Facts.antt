@@ -42,6 +42,10 @@ pub implies : (a b : Bool) → (not a || b) ≡ true → a ≡ true → b ≡ tr
 implies true b h e = h
 implies false b h e = absurd (false≢true e)
 
+-- two numbers that differ
+pub differ : (a b : ℕ) → a ≢ b → not (eqb a b) ≡ true
+differ a b n = rw (ne-eqb a b n)
+
 -- the two sides of a test
 pub decided : (b : Bool) → (b ≡ true) ⊎ (b ≡ false)
 decided true = inl refl

@@ -74,7 +74,7 @@ pub const SEND_GRANT: Rule = Rule {
         need("load 1: named TT", |s| {
             !grants(s, Purpose::Load, SOLE) || s.name() == Name::TT
         }),
-        need("a store is granted with 1", |s| {
+        need("store: other is 1 (sole)", |s| {
             !grants(s, Purpose::Store, SHARED)
         }),
         need("store 1: Tip", |s| {

@@ -41,23 +41,43 @@ pub fn failing(configuration: &Configuration, event: &Event) -> Option<Vec<usize
     )
 }
 
-/// The candidates with exactly so many needs that don't hold.
-pub fn with_failing(
-    configuration: &Configuration,
-    candidates: &[Event],
-    number: usize,
-) -> Vec<Event> {
+/// The candidates that a configuration accepts.
+pub fn accepted(configuration: &Configuration, candidates: &[Event]) -> Vec<Event> {
     let mut events = candidates.to_vec();
     events.retain(|event| {
         let act = event.act(&configuration.tree).expect("a candidate");
         let scene = Scene::new(configuration, act);
-        let failing = rule(act.kind)
-            .needs
-            .iter()
-            .filter(|need| !(need.holds)(&scene));
-        failing.take(number + 1).count() == number
+        rule(act.kind).needs.iter().all(|need| (need.holds)(&scene))
     });
     events
+}
+
+/// A candidate that one need alone refuses: the kind and the need first, whatever the number of their events.
+fn nearly_accepted(
+    random: &mut Random,
+    configuration: &Configuration,
+    candidates: &[Event],
+) -> Option<Event> {
+    let near: Vec<(u8, usize, Event)> = candidates
+        .iter()
+        .filter_map(|event| match failing(configuration, event)?[..] {
+            [need] => Some((event.kind, need, *event)),
+            _ => None,
+        })
+        .collect();
+    let mut causes: Vec<(u8, usize)> = near.iter().map(|&(kind, need, _)| (kind, need)).collect();
+    causes.sort_unstable();
+    causes.dedup();
+    if causes.is_empty() {
+        return None;
+    }
+    let cause = random.pick(&causes);
+    let events: Vec<Event> = near
+        .into_iter()
+        .filter(|&(kind, need, _)| (kind, need) == cause)
+        .map(|(_, _, event)| event)
+        .collect();
+    Some(random.pick(&events))
 }
 
 /// How often each kind is preferred, by its code.
@@ -90,14 +110,12 @@ pub fn choose(random: &mut Random, events: &[Event], weights: &Weights) -> Optio
     Some(event)
 }
 
-/// An event that is as likely accepted, refused by one need alone, or anything.
+/// An event that is accepted, or that one need alone refuses, or any.
 pub fn aimed(random: &mut Random, configuration: &Configuration, candidates: &[Event]) -> Event {
-    let number = random.below(4);
-    let chosen = if number < 2 {
-        let events = with_failing(configuration, candidates, number);
-        choose(random, &events, &[1; 20])
-    } else {
-        None
+    let chosen = match random.below(10) {
+        0..3 => choose(random, &accepted(configuration, candidates), &[1; 20]),
+        3..7 => nearly_accepted(random, configuration, candidates),
+        _ => None,
     };
     chosen.unwrap_or_else(|| any(random, &configuration.tree))
 }

@@ -16,7 +16,7 @@ mod work;
 
 use program::Starter;
 use std::path::{Path, PathBuf};
-use std::process::ExitCode;
+use std::process::{exit, ExitCode};
 use std::time::{Instant, SystemTime, UNIX_EPOCH};
 use std::{env, fs};
 use work::{Found, Plan};
@@ -59,6 +59,10 @@ fn options() -> Option<Options> {
     let mut words = env::args().skip(1);
     while let Some(word) = words.next() {
         match word.as_str() {
+            "--help" => {
+                println!("{USAGE}");
+                exit(0);
+            }
             "--root" => options.root = words.next()?.into(),
             "--long" => options.long = true,
             "--model" => options.model = true,

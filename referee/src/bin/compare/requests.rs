@@ -30,12 +30,12 @@ pub fn row(random: &mut Random, tally: &mut Tally, events: usize) -> Vec<Request
     let mut made = 0;
     while made < events {
         made += match row.random.below(100) {
-            0..25 => row.walk(),
-            25..70 => row.scattered(),
-            70..85 => row.altered_from_walk(),
-            85..95 => row.broken(),
-            95..97 => row.any_codes(),
-            97..99 => row.bad_tree(),
+            0..4 => row.walk(),
+            4..45 => row.scattered(),
+            45..51 => row.altered_from_walk(),
+            51..80 => row.broken(),
+            80..90 => row.any_codes(),
+            90..97 => row.bad_tree(),
             _ => row.reset(),
         };
     }

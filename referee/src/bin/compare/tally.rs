@@ -62,10 +62,10 @@ impl Tally {
             self.kinds[usize::from(kind.code())][usize::from(number)] += 1;
         }
         match outcome {
-            Err(Refusal::NotAConfiguration(clauses)) => {
-                if clauses.iter().all(|&clause| clause == clauses[0]) {
-                    self.clauses[clauses[0] as usize] += 1;
-                }
+            Err(Refusal::NotAConfiguration(clauses))
+                if clauses.iter().all(|&clause| clause == clauses[0]) =>
+            {
+                self.clauses[clauses[0] as usize] += 1;
             }
             Err(Refusal::BadEvent(fault)) => self.faults[*fault as usize] += 1,
             Err(Refusal::Need(_)) => {

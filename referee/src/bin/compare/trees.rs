@@ -52,7 +52,7 @@ pub fn bad_parent(random: &mut Random, node: usize) -> u8 {
 
 pub fn parents(tree: &Tree) -> [u8; NODES] {
     let mut parents = [0; NODES];
-    for node in 1..tree.count() {
+    for node in tree.nodes() {
         parents[node] = tree.parent(node) as u8;
     }
     parents

@@ -1,6 +1,6 @@
 //! A random walk from reset: every configuration on it is reachable.
 
-use crate::events::{any, candidates, choose, with_failing, Weights};
+use crate::events::{accepted, any, candidates, choose, Weights};
 use crate::random::Random;
 use referee::configuration::Configuration;
 use referee::event::Event;
@@ -26,13 +26,13 @@ impl Walk {
 
     /// The next event: mostly an accepted one.
     pub fn next_event(&self, random: &mut Random) -> Event {
-        let accepted = if random.percent(self.accepted_percent) {
-            let events = with_failing(&self.configuration, &self.candidates, 0);
+        let chosen = if random.percent(self.accepted_percent) {
+            let events = accepted(&self.configuration, &self.candidates);
             choose(random, &events, &self.weights)
         } else {
             None
         };
-        accepted.unwrap_or_else(|| any(random, &self.configuration.tree))
+        chosen.unwrap_or_else(|| any(random, &self.configuration.tree))
     }
 
     /// Takes the event, where it is accepted.
