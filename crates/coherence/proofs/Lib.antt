@@ -4,3 +4,15 @@ pub mod Valid
 pub mod Tokens
 pub mod Here
 pub mod SendRelease
+pub mod Settled
+pub mod Stays
+pub mod Miss
+pub mod Evict
+pub mod SendAcquire
+pub mod TakeAcquire
+pub mod SendProbe
+pub mod TakeProbe
+pub mod SendGrantAck
+pub mod TakeGrantAck
+pub mod SendReleaseAck
+pub mod TakeReleaseAck

@@ -4,7 +4,7 @@ use referee::answer::Request;
 use referee::trail::VERSION;
 
 /// How many inputs are tried at most: each try starts the program once.
-const TRIES: usize = 1500;
+const TRIES: usize = 800;
 
 pub struct Shrink<F: FnMut(&[u8]) -> bool> {
     differs: F,

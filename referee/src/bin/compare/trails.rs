@@ -79,11 +79,11 @@ pub fn trail(random: &mut Random, damage: Damage) -> Vec<u8> {
         Damage::FirstMissing => bytes.truncate(1),
         Damage::FirstLengthCut => bytes.truncate(2),
         Damage::FirstTooShort => {
-            let length = random.between(0, 8);
+            let length = near_or_far(random, 8, &[0, 1, 2, 7]);
             bytes = with_first(&vec![0; length], &tail);
         }
         Damage::FirstTooLong => {
-            let length = random.pick(&[24, 25, 32, 256 + 9, 256 + 23, 4000]);
+            let length = near_or_far(random, 24, &[25, 32, 256 + 9, 256 + 23, 4000]);
             bytes = with_first(&vec![0; length], &tail);
         }
         Damage::FirstCut => bytes.truncate(random.between(3, first_end - 1)),
@@ -92,8 +92,14 @@ pub fn trail(random: &mut Random, damage: Damage) -> Vec<u8> {
             bytes[1 + 2 + 8 + node - 1] = trees::bad_parent(random, node);
         }
         Damage::LengthCut => bytes.push(random.pick(&[0, 1, 11])),
-        Damage::TooShort => wrong_length(random, &mut bytes, &tail, &[0, 1, 9, 10]),
-        Damage::TooLong => wrong_length(random, &mut bytes, &tail, &[12, 13, 23, 256, 267, 3000]),
+        Damage::TooShort => {
+            let length = near_or_far(random, 10, &[0, 1, 2, 9]);
+            wrong_length(random, &mut bytes, &tail, length);
+        }
+        Damage::TooLong => {
+            let length = near_or_far(random, 12, &[13, 23, 256, 256 + 11, 3000, 65_535]);
+            wrong_length(random, &mut bytes, &tail, length);
+        }
         Damage::Cut => {
             write_record(&mut bytes, &[0; 11]);
             bytes.truncate(random.between(whole + 2, whole + 12));
@@ -111,9 +117,16 @@ fn with_first(first: &[u8], tail: &[u8]) -> Vec<u8> {
     bytes
 }
 
-/// A record with a wrong length, whole or cut short, and good events after it.
-fn wrong_length(random: &mut Random, bytes: &mut Vec<u8>, tail: &[u8], lengths: &[usize]) {
-    let length = random.pick(lengths);
+/// The length next to a right one, or one farther off.
+fn near_or_far(random: &mut Random, near: usize, far: &[usize]) -> usize {
+    match random.percent(50) {
+        true => near,
+        false => random.pick(far),
+    }
+}
+
+/// A record with a wrong length, and good events after it.
+fn wrong_length(random: &mut Random, bytes: &mut Vec<u8>, tail: &[u8], length: usize) {
     let body: Vec<u8> = (0..length).map(|_| random.byte()).collect();
     write_record(bytes, &body);
     bytes.extend(tail);

@@ -1,0 +1,27 @@
+use mathlib.Core.Path.{_≡_}
+use Prim.Native.Nat.{_≤_, _-_, _+_, _*_}
+use Rattle.rules.specs.Codes.{nodes, cells}
+use lib.ListN.{getD}
+use Rattle.words.specs.Vocab.{fill}
+use Rattle.records.specs.Writing.{cellsPut}
+use Rattle.words.proofs.Laws.{loops}
+use Rattle.records.proofs.write.cells_put.Statement.{statement}
+use Rattle.records.proofs.write.cells_put.Tie as tie
+
+abbrev Inv-loop : tie.InvT-loop
+Inv-loop out₀ at row k₀ out k = (k ≤ cells) × (out ≡ fill (λ j. getD row j 0) at k out₀)
+
+pub cells-put-spec : {M : Type 1} → statement M
+unfolding cellsPut
+cells-put-spec =
+    tie.close (tie.spec
+    Inv-loop
+    (λ out₀ at row k₀ out k. cells - k)
+    (λ c. search loops)
+    (λ c. search loops)
+    (λ c. search loops)
+    (λ c. search loops)
+    (λ c. search loops)
+    (λ c. search loops)
+    (λ c. search loops)
+    (λ c. search loops))
