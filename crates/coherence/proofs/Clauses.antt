@@ -1,4 +1,4 @@
--- The clauses of the invariant. Each speaks of one link or of one node; the tree appears in Theorem alone.
+-- The clauses of the invariant. Each speaks of one link or of one node; the tree appears in Tree and Parts alone.
 use mathlib.Core.Path.{_≡_}
 use mathlib.Core.Bool.{Bool, true, false, not, _&&_, _||_}
 use mathlib.Core.Logic.{_≢_}

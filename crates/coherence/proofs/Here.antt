@@ -56,6 +56,10 @@ module _ (s : State) (v : ℕ) (i : Inv s v) where
   pub parent-inside : (k : ℕ) → 0 < k → k < s .count → parent s k < s .count
   parent-inside k a b = let c : parent s k < k = good .smaller k a b in omega arith
 
+  -- a node other than the root is a child of its parent
+  pub own-child : (k : ℕ) → 0 < k → k < s .count → Child s (parent s k) k
+  own-child k a b = record { inside = b; below = λ e. omega arith; parent = refl }
+
   -- an entry
   pub entry-at : (y k : ℕ) → y < s .count → k < nodes → Entries (rights s y) (isChild s y k) (entry s y k)
   entry-at y k h l = entries-of _ _ _ _ _ (fit-at y h .row k l)

@@ -2,6 +2,7 @@
 
 mod broken;
 mod difference;
+mod endings;
 mod events;
 mod program;
 mod random;

@@ -1,12 +1,14 @@
 //! The comparison itself: units of work, each with its own random stream, shared among threads.
 
 use crate::difference::expected;
+use crate::endings;
 use crate::program::{Program, Starter};
 use crate::random::Random;
 use crate::requests;
 use crate::tally::Tally;
 use crate::trails::{self, Damage};
 use referee::answer::Request;
+use referee::codes::Kind;
 use referee::trail::Trail;
 use std::sync::atomic::{AtomicBool, AtomicUsize, Ordering};
 use std::sync::Mutex;
@@ -94,14 +96,23 @@ fn input(unit: Unit, random: &mut Random, tally: &mut Tally) -> (Program, Vec<u8
             tally.requests += requests.len() as u64;
             let mut input: Vec<u8> = requests.iter().flat_map(Request::to_bytes).collect();
             let last = requests.last().expect("a row has requests");
-            input.extend(requests::ending(random, last));
+            input.extend(endings::ending(random, last));
             (Program::Answer, input)
         }
         Unit::Trail(damage) => {
             let input = trails::trail(random, damage);
             tally.trail(damage);
-            Trail::read(&input).run(|configuration, event, outcome| {
+            let trail = Trail::read(&input);
+            let mut stored = trail.first.map(|(_, first_value)| first_value);
+            trail.run(|configuration, event, outcome| {
                 tally.event(Some(configuration), event, outcome);
+                match (Kind::from_code(event.kind), outcome) {
+                    (Some(Kind::Store), Ok(_)) => stored = Some(event.value),
+                    (Some(Kind::Load), Ok(step)) => {
+                        assert_eq!(Some(step.value), stored, "the model's load is stale");
+                    }
+                    _ => {}
+                }
             });
             (Program::Trail, input)
         }

@@ -1,0 +1,13 @@
+pub mod Tables
+pub mod Parts
+pub mod Fits
+pub mod Frame
+pub mod Work
+pub mod Pairs
+pub mod Local
+pub mod Acquire
+pub mod Probe
+pub mod Grant
+pub mod Release
+pub mod Closed
+pub mod Reset
