@@ -20,7 +20,8 @@ use Rattle.rules.specs.declared.Link.{Link}
 use Rattle.writes.proofs.Needs.{Child}
 use Rattle.writes.proofs.Judged.{Tree, tree}
 use Rattle.coherence.proofs.Clauses.{View, view, _⇒_, isGrant, grantRule, levels, LinkOk, NodeOk, Inv}
-use Rattle.coherence.proofs.Valid.{Fit, fit, Rights, rights-of, Slots, slots-of, Entries, entries-of}
+use Rattle.closed.proofs.Fits.{Fits, fits}
+use Rattle.coherence.proofs.Valid.{Rights, rights-of, messages-of, Entries, entries-of}
 use Rattle.coherence.proofs.Tokens.{At, token-at, token-in, Codes, everyCode, code-at, apply, below, not-awaited, calm}
 
 -- a link with the entry None: the child has nothing, and no Grant is on its way
@@ -46,12 +47,12 @@ module _ (s : State) (v : ℕ) (i : Inv s v) where
   pub small : (y : ℕ) → y < s .count → y < nodes
   small y h = let a : s .count ≤ nodes = good .most in omega arith
 
-  pub fit-at : (y : ℕ) → y < s .count → Fit s y
-  fit-at y h = fit s (i .valid) y (small y h)
+  pub fit-at : (y : ℕ) → y < s .count → Fits s y
+  fit-at y h = fits s (i .valid) y (small y h)
 
   -- a node's rights and fields
   pub rights-at : (y : ℕ) → y < s .count → Rights (rights s y) (node s y)
-  rights-at y h = rights-of (rights s y) (node s y) (fit-at y h .knot)
+  rights-at y h = rights-of (rights s y) (node s y) (fit-at y h .own)
 
   pub parent-inside : (k : ℕ) → 0 < k → k < s .count → parent s k < s .count
   parent-inside k a b = let c : parent s k < k = good .smaller k a b in omega arith
@@ -61,19 +62,19 @@ module _ (s : State) (v : ℕ) (i : Inv s v) where
   own-child k a b = record { inside = b; below = λ e. omega arith; parent = refl }
 
   -- an entry
-  pub entry-at : (y k : ℕ) → y < s .count → k < nodes → Entries (rights s y) (isChild s y k) (entry s y k)
-  entry-at y k h l = entries-of _ _ _ _ _ (fit-at y h .row k l)
+  pub entry-at : (y k : ℕ) → y < s .count → k < nodes → Entries (rights s y) (entry s y k)
+  entry-at y k h l = entries-of _ _ (fit-at y h .pairs k l)
 
   -- the codes of a link
   pub codes-at : (k : ℕ) → 0 < k → k < s .count → Codes (rights s k) (entry s (parent s k) k) (slotC s k) (kept s k) (slotD s k)
   codes-at k a b =
-      let w = slots-of (link s k) (fit-at k b .slots) in
+      let w = messages-of (link s k) (fit-at k b .link) in
       record {
         rights = rights-at k b .code;
         entry = entry-at (parent s k) k (parent-inside k a b) (small k b) .code;
-        up = w .c;
+        up = w .up;
         kept = w .kept;
-        down = w .d;
+        down = w .down;
       }
 
   -- BELOW on the link of k
