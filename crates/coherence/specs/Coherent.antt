@@ -1,6 +1,6 @@
 -- Demand 3, part by part.
 use mathlib.Core.Path.{_≡_}
-use mathlib.Core.Bool.{Bool, true, false, _&&_, _||_}
+use mathlib.Core.Bool.{Bool, true, _&&_, _||_}
 use Prim.Native.Nat.{ℕ, _<_}
 use lib.Dec.{eqb}
 use Rattle.rules.specs.Codes.{rightsN, rightsB, tip, none, branch, trunk, nameTT}

@@ -1,9 +1,9 @@
 -- "Both sides of each edge": the starred cases as one table under one theorem, computed from the definitions.
-use mathlib.Core.Bool.{Bool, true, false, not, _&&_, _||_, Bool·beq}
+use mathlib.Core.Bool.{Bool, true, _&&_}
 use mathlib.Core.Path.{_≡_, refl}
 use mathlib.Core.List.{List, [], _∷_}
 use Prim.Native.Nat.{ℕ}
-use lib.ListN.{getD, set, replicate}
+use lib.ListN.{replicate}
 use lib.Dec.{eqb}
 use Rattle.words.specs.Vocab.{all, any, fill, choose}
 use Rattle.rules.specs.Codes.{shared, sole, badTree, badEvent, wrongPlace, outOfTurn}
@@ -19,7 +19,6 @@ use Rattle.rules.specs.Probe.{sendProbeNeeds, capFor, sendProbeTo, takeProbeNee
 use Rattle.rules.specs.Grant.{grantFits, takeGrantNeeds, grantedRights, installed, takeGrantTo, sendGrantAckNeeds, confirmed, sendGrantAckTo, mayGrant, sendGrantNeeds, grantFor, entryFor, grantValue, sendGrantTo, takeGrantAckNeeds, takeGrantAckTo}
 use Rattle.rules.specs.Release.{sendReleaseNeeds, releaseFor, sendReleaseTo}
 use Rattle.rules.specs.Step.{resetOf, startOf, treeParents, rowOf, judged, stepOf, onwardOf}
-use Rattle.rules.specs.declared.State.{State}
 use Rattle.rules.specs.declared.Event.{Event}
 use Rattle.rules.specs.declared.Answer.{Answer}
 

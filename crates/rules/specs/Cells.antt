@@ -1,6 +1,5 @@
 -- What a configuration holds, cell by cell, and a configuration with one cell replaced.
 use mathlib.Core.Bool.{Bool, false}
-use mathlib.Core.List.{List}
 use Prim.Native.Nat.{ℕ, _+_, _*_}
 use lib.ListN.{getD, set}
 use Rattle.words.specs.Vocab.{fill}

@@ -1,5 +1,5 @@
 -- Number 2: "Not a configuration", clause by clause of document 01's list. Each clause says when a node, a link or a pair is right.
-use mathlib.Core.Bool.{Bool, true, false, not, _&&_, _||_, Bool·beq}
+use mathlib.Core.Bool.{Bool, not, _&&_, _||_, Bool·beq}
 use Prim.Native.Nat.{ℕ}
 use lib.Dec.{eqb, leb, ltb}
 use Rattle.words.specs.Vocab.{all}

@@ -1,5 +1,5 @@
 -- Numbers 3 and 4: the event and its "other", and the place.
-use mathlib.Core.Bool.{Bool, true, false, not, _&&_, _||_}
+use mathlib.Core.Bool.{Bool, true, not, _&&_, _||_}
 use Prim.Native.Nat.{ℕ}
 use lib.Dec.{eqb, leb, ltb}
 use Rattle.words.specs.Vocab.{choose}

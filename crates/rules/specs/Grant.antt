@@ -1,9 +1,9 @@
 -- Kinds 12 to 15: a Grant goes down and its GrantAck comes up.
-use mathlib.Core.Bool.{Bool, true, false, not, _&&_, _||_}
+use mathlib.Core.Bool.{Bool, false, not, _&&_, _||_}
 use Prim.Native.Nat.{ℕ}
 use lib.Dec.{eqb}
 use Rattle.words.specs.Vocab.{choose}
-use Rattle.rules.specs.Codes.{rightsN, rightsB, tip, none, branch, trunk, nameTT, wait, confirm, give, await, toLoad, toStore, empty, grantT, grantDataT, grantDataB, grantAck, shared, sole}
+use Rattle.rules.specs.Codes.{rightsN, rightsB, tip, branch, trunk, nameTT, wait, confirm, give, await, toLoad, toStore, empty, grantT, grantDataT, grantDataB, grantAck, shared, sole}
 use Rattle.rules.specs.With.{withDirty, withValue, withPhase, withD, withDown, withE}
 use Rattle.rules.specs.Cells.{rights, entry, node, link, value, phase, purpose, requester, probing, slotD, slotE, down, rightsPut, entryPut, nodePut, linkPut}
 use Rattle.rules.specs.Tree.{isChild, isLeaf}

@@ -1,9 +1,8 @@
 -- Kinds 1 to 5: what starts at a node.
-use mathlib.Core.Bool.{Bool, true, false, not, _&&_, _||_}
+use mathlib.Core.Bool.{Bool, true, not, _&&_, _||_}
 use Prim.Native.Nat.{ℕ}
-use lib.ListN.{getD}
 use lib.Dec.{eqb}
-use Rattle.rules.specs.Codes.{rightsN, rightsB, nameB, nameTT, none, ask, toLoad, toStore, toEvict}
+use Rattle.rules.specs.Codes.{rightsN, rightsB, nameB, nameTT, none, ask, toEvict}
 use Rattle.rules.specs.With.{withDirty, withValue, withPhase, withPurpose}
 use Rattle.rules.specs.Cells.{rights, entry, node, nodePut, toProbeRow}
 use Rattle.rules.specs.Names.{named, setsEmpty}

@@ -3,7 +3,7 @@ use mathlib.Core.Bool.{Bool, true, false, not, _&&_, _||_}
 use Prim.Native.Nat.{ℕ}
 use lib.Dec.{eqb, leb}
 use Rattle.words.specs.Vocab.{choose}
-use Rattle.rules.specs.Codes.{rightsN, rightsB, tip, none, trunk, idle, wait, leaving, toLoad, noCap, capB, capN, noChild, empty, probeAck, probeAckData}
+use Rattle.rules.specs.Codes.{rightsN, rightsB, none, trunk, idle, wait, leaving, toLoad, noCap, capB, capN, noChild, empty, probeAck, probeAckData}
 use Rattle.rules.specs.With.{withDirty, withValue, withProbe, withCap, withB, withC, withKept, withUp}
 use Rattle.rules.specs.Cells.{rights, entry, toProbe, pending, node, link, dirty, value, phase, purpose, probing, cap, noted, slotB, slotC, kept, rightsPut, entryPut, toProbePut, pendingPut, nodePut, linkPut, toProbeRow}
 use Rattle.rules.specs.Configuration.{isProbeAck, carriesUp}

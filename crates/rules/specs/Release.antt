@@ -1,9 +1,9 @@
 -- Kinds 16 to 19: a Release goes up and its ReleaseAck comes down.
-use mathlib.Core.Bool.{Bool, true, false, not, _&&_, _||_}
+use mathlib.Core.Bool.{Bool, false, not, _&&_, _||_}
 use Prim.Native.Nat.{ℕ}
 use lib.Dec.{eqb}
 use Rattle.words.specs.Vocab.{choose}
-use Rattle.rules.specs.Codes.{rightsN, none, idle, await, letGo, leaving, noChild, empty, release, releaseData, releaseAck}
+use Rattle.rules.specs.Codes.{rightsN, none, await, letGo, leaving, noChild, empty, release, releaseData, releaseAck}
 use Rattle.rules.specs.With.{withDirty, withValue, withPhase, withRelease}
 use Rattle.rules.specs.Cells.{rights, entry, node, link, dirty, value, phase, requester, noted, slotC, slotD, rightsPut, entryPut, toProbePut, nodePut, linkPut}
 use Rattle.rules.specs.Tree.{isChild}

@@ -1,5 +1,5 @@
 -- Settle, and what the rows say of transactions.
-use mathlib.Core.Bool.{Bool, true, false, not, _&&_, _||_}
+use mathlib.Core.Bool.{Bool, not, _&&_, _||_}
 use Prim.Native.Nat.{ℕ}
 use lib.Dec.{eqb}
 use Rattle.words.specs.Vocab.{choose}

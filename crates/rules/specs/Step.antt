@@ -1,5 +1,5 @@
 -- Reset, the kinds as a list of rows, and the step: "the first that applies is given and none otherwise".
-use mathlib.Core.Bool.{Bool, true, false, not}
+use mathlib.Core.Bool.{Bool, false, not}
 use mathlib.Core.List.{List, [], _∷_}
 use Prim.Native.Nat.{ℕ}
 use lib.ListN.{getD, set, replicate}

@@ -1,7 +1,6 @@
 -- What each kind writes.
-use mathlib.Core.Path.{_≡_, refl}
-use mathlib.Core.Bool.{Bool, true, false, not, _&&_, _||_}
-use mathlib.Core.List.{List}
+use mathlib.Core.Path.{refl}
+use mathlib.Core.Bool.{Bool, true, false}
 use Prim.Native.Nat.{ℕ, _<_}
 use native.Mathlib.Omega.{arith}
 use lib.ListN.{length}
@@ -9,7 +8,7 @@ use lib.Dec.{eqb}
 use Rattle.words.specs.Vocab.{choose}
 use Rattle.rules.specs.Codes.{nodes, rightsN, none, ask, wait, await, confirm, toEvict, noChild, empty, grantAck, releaseAck}
 use Rattle.rules.specs.With.{withDirty, withValue, withPhase, withPurpose, withRequester, withProbe, withCap, withRelease, withA, withB, withE}
-use Rattle.rules.specs.Cells.{blankNode, blankLink, rights, entry, toProbe, pending, node, link, dirty, value, phase, purpose, requester, probing, cap, noted, slotA, slotB, slotD, down, kept}
+use Rattle.rules.specs.Cells.{rights, entry, toProbe, pending, node, link, dirty, value, phase, purpose, requester, probing, cap, noted, slotA, slotB, slotD, down, kept}
 use Rattle.rules.specs.Tree.{isLeaf}
 use Rattle.rules.specs.Names.{named, setsEmpty}
 use Rattle.rules.specs.Settle.{idled, phaseAfter}
@@ -20,8 +19,7 @@ use Rattle.rules.specs.Grant.{grantedRights, installed, filledD, takeGrantTo, c
 use Rattle.rules.specs.Release.{releaseFor, left, sendReleaseTo, takeReleaseTo, sendReleaseAckTo, takeReleaseAckTo}
 use Rattle.rules.specs.declared.State.{State}
 use Rattle.rules.specs.declared.Node.{Node}
-use Rattle.rules.specs.declared.Link.{Link}
-use Rattle.writes.proofs.Put.{Put, Row, same, put, put-again, row-same, row-put, row-fill}
+use Rattle.writes.proofs.Put.{same, put, put-again, row-same, row-put, row-fill}
 use Rattle.writes.proofs.Writes.{Sized, Writes}
 
 -- the row with v at k

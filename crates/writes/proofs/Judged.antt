@@ -1,22 +1,21 @@
 -- What an accepted step is: its event, its place and its needs hold, and it did what its row does; and a fact shown for each row.
 use mathlib.Core.Path.{_≡_, refl, sym, _∙_, subst}
-use mathlib.Core.Bool.{Bool, true, false, not, _&&_, _||_}
+use mathlib.Core.Bool.{true, not, _&&_, _||_}
 use mathlib.Core.Logic.{_⊎_, inl, inr}
 use mathlib.Core.List.{List, [], _∷_}
 use Prim.Native.Nat.{ℕ, zero, suc, _+_, _<_, _≤_}
 use native.Mathlib.Nat.{not-suc-le-zero}
 use native.Mathlib.Omega.{arith}
-use borrow.Author.Tests.{eqb-true, leb-true, ltb-true, not-true, not-false}
+use borrow.Author.Tests.{eqb-true, leb-true, ltb-true, not-false}
 use lib.ListN.{getD, length}
 use lib.Dec.{eqb, leb, ltb}
-use Rattle.words.specs.Vocab.{all, choose}
-use Rattle.words.proofs.Facts.{both, all-at, either, decided, choose-true, choose-false, clash, by-test}
+use Rattle.words.specs.Vocab.{all}
+use Rattle.words.proofs.Facts.{both, all-at, either, choose-true, by-test}
 use Rattle.rules.specs.Codes.{nodes}
-use Rattle.rules.specs.Cells.{parent}
 use Rattle.rules.specs.Tree.{parentOk, treeOk, isChild}
 use Rattle.rules.specs.Configuration.{configurationOk}
-use Rattle.rules.specs.Events.{isKind, takesChild, takesChoice, takesValue, otherOk, eventOk, placeOk}
-use Rattle.rules.specs.Step.{Row, noRow, rows, rowOf, accepted, refused, turned, turnOf, judged, stepOf}
+use Rattle.rules.specs.Events.{isKind, takesChild, takesValue, otherOk, eventOk, placeOk}
+use Rattle.rules.specs.Step.{Row, noRow, rows, rowOf, judged, stepOf}
 use Rattle.rules.specs.declared.State.{State}
 use Rattle.rules.specs.declared.Event.{Event}
 use Rattle.rules.specs.declared.Answer.{Answer}

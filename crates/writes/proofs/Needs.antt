@@ -5,15 +5,15 @@ use mathlib.Core.Logic.{_≢_, _⊎_, inl, inr}
 use mathlib.Core.List.{List}
 use Prim.Native.Nat.{ℕ, _<_, _≤_}
 use lib.ListN.{getD}
-use lib.Dec.{eqb, leb, ltb}
-use borrow.Author.Tests.{eqb-true, eqb-false, leb-true, ltb-true, not-true, not-false}
-use Rattle.words.specs.Vocab.{all, any, choose}
-use Rattle.words.proofs.Facts.{both, either, all-at, any-off, choose-true, choose-false, decided, clash}
+use lib.Dec.{eqb, ltb}
+use borrow.Author.Tests.{eqb-true, eqb-false, leb-true, ltb-true, not-true}
+use Rattle.words.specs.Vocab.{choose}
+use Rattle.words.proofs.Facts.{both, either, all-at, any-off, decided, clash}
 use Rattle.rules.specs.Codes.{nodes, rightsN, rightsB, none, trunk, nameB, nameTT, idle, ask, wait, confirm, give, await, letGo, leaving, noChild, empty, releaseAck}
-use Rattle.rules.specs.Cells.{cell, parent, rights, entry, toProbe, pending, node, dirty, value, phase, purpose, requester, probing, cap, noted, slotA, slotB, slotC, slotD, slotE, kept}
+use Rattle.rules.specs.Cells.{cell, parent, rights, entry, toProbe, pending, node, phase, purpose, requester, probing, cap, noted, slotA, slotB, slotC, slotD, slotE, kept}
 use Rattle.rules.specs.Tree.{childIn, isChild}
 use Rattle.rules.specs.Names.{someIn, noneIn, othersNoneIn, memberIn, named, setsEmpty, noEntries, someEntry, noOtherEntries}
-use Rattle.rules.specs.Configuration.{isProbeAck, carriesUp}
+use Rattle.rules.specs.Configuration.{isProbeAck}
 use Rattle.rules.specs.Settle.{allIdle}
 use Rattle.rules.specs.Local.{loadNeeds, storeNeeds, loadMissNeeds, storeMissNeeds, evictNeeds}
 use Rattle.rules.specs.Acquire.{asksFrom, sendAcquireNeeds, acquireFits, takeAcquireNeeds}

@@ -1,10 +1,8 @@
 -- What a step at node x writes: the rights and the fields of x, one link, and the row of x in the entries and in the two sets.
 -- Nothing else moves. A kind's effect is known once its `Writes` is known.
-use mathlib.Core.Path.{_≡_, refl, _∙_}
+use mathlib.Core.Path.{_≡_, _∙_}
 use mathlib.Core.Bool.{Bool, false}
-use mathlib.Core.Logic.{_≢_}
-use mathlib.Core.List.{List}
-use Prim.Native.Nat.{ℕ, _<_}
+use Prim.Native.Nat.{ℕ}
 use lib.ListN.{length}
 use Rattle.rules.specs.Codes.{nodes, cells}
 use Rattle.rules.specs.Cells.{blankNode, blankLink}

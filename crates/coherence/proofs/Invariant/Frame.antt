@@ -1,18 +1,17 @@
 -- The frame, stated once: after a step at x the invariant holds where it holds at x, on the link of x and on the links of its children.
 use mathlib.Core.Path.{_≡_, refl, sym, _∙_, ap, subst}
-use mathlib.Core.Bool.{Bool, true, false, not, _&&_, _||_}
+use mathlib.Core.Bool.{Bool, true}
 use mathlib.Core.Logic.{_≢_, _⊎_, inl, inr}
 use Prim.Native.Nat.{ℕ, _<_, _≤_}
 use native.Mathlib.Decide.{ℕ-discrete}
 use native.Mathlib.Omega.{arith}
-use Rattle.rules.specs.Codes.{nodes, tip, none, trunk, clear}
+use Rattle.rules.specs.Codes.{nodes, tip}
 use Rattle.rules.specs.Cells.{parent, rights, entry, toProbe, pending, node, link}
-use Rattle.rules.specs.Tree.{treeOk}
 use Rattle.rules.specs.Configuration.{configurationOk}
 use Rattle.rules.specs.declared.State.{State}
 use Rattle.rules.specs.declared.Node.{Node}
 use Rattle.rules.specs.declared.Link.{Link}
-use Rattle.writes.proofs.Writes.{Sized, Writes, sized}
+use Rattle.writes.proofs.Writes.{Writes, sized}
 use Rattle.writes.proofs.Needs.{Child}
 use Rattle.writes.proofs.Judged.{Tree, tree}
 use Rattle.coherence.proofs.Invariant.Clauses.{View, view, LinkOk, NodeOk, Inv}

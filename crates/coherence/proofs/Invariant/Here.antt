@@ -1,28 +1,24 @@
 -- What the invariant says at a node and at a link, in the form in which the kinds use it.
-use mathlib.Core.Path.{_≡_, refl, sym, _∙_, ap, subst}
-use mathlib.Core.Bool.{Bool, true, false, not, _&&_, _||_, false≢true}
+use mathlib.Core.Path.{_≡_, refl, sym, subst}
+use mathlib.Core.Bool.{Bool, true, false, not, _&&_, false≢true}
 use mathlib.Core.Logic.{_≢_, _⊎_, inl, inr}
 use Prim.Native.Nat.{ℕ, _<_, _≤_}
 use native.Mathlib.Omega.{arith}
-use borrow.Author.Tests.{eqb-true, eqb-false, leb-true, not-true, ne-eqb}
-use lib.Dec.{eqb, leb}
+use borrow.Author.Tests.{eqb-true, not-true}
+use lib.Dec.{eqb}
 use Rattle.words.specs.Vocab.{all, choose}
-use Rattle.words.proofs.Facts.{both, either, all-at, clash, choose-true, choose-false}
-use Rattle.rules.specs.Codes.{nodes, rightsN, none, await}
-use Rattle.rules.specs.Cells.{parent, rights, entry, toProbe, pending, node, link, phase, requester, slotC, kept, slotD}
-use Rattle.rules.specs.Tree.{isChild}
-use Rattle.rules.specs.Configuration.{carriesUp, carriesDown}
+use Rattle.words.proofs.Facts.{both, either}
+use Rattle.rules.specs.Codes.{nodes, rightsN, none}
+use Rattle.rules.specs.Cells.{parent, rights, entry, toProbe, pending, node, link, slotC, kept, slotD}
+use Rattle.rules.specs.Configuration.{carriesDown}
 use Rattle.rules.specs.Grant.{entryFor}
-use Rattle.rules.specs.Release.{awaits}
 use Rattle.rules.specs.declared.State.{State}
-use Rattle.rules.specs.declared.Node.{Node}
-use Rattle.rules.specs.declared.Link.{Link}
 use Rattle.writes.proofs.Needs.{Child}
 use Rattle.writes.proofs.Judged.{Tree, tree}
-use Rattle.coherence.proofs.Invariant.Clauses.{View, view, _⇒_, isGrant, grantRule, levels, LinkOk, NodeOk, Inv}
+use Rattle.coherence.proofs.Invariant.Clauses.{view, _⇒_, isGrant, grantRule, levels, LinkOk, Inv}
 use Rattle.closed.proofs.Fits.{Fits, fits}
 use Rattle.coherence.proofs.Invariant.Valid.{Rights, rights-of, messages-of, Entries, entries-of}
-use Rattle.coherence.proofs.Invariant.Tokens.{At, token-at, token-in, Codes, everyCode, code-at, apply, below, not-awaited, calm}
+use Rattle.coherence.proofs.Invariant.Tokens.{Codes, everyCode, code-at, apply, below}
 
 -- a link with the entry None: the child has nothing, and no Grant is on its way
 abbrev noneRule : ℕ → ℕ → ℕ → ℕ → ℕ → Bool

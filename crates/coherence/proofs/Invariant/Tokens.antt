@@ -1,19 +1,18 @@
 -- Laws on the three tokens, and rules on the codes of a link that antt computes over all of them.
-use mathlib.Core.Path.{_≡_, refl, sym, _∙_, ap, subst}
-use mathlib.Core.Bool.{Bool, true, false, not, _&&_, _||_, false≢true}
+use mathlib.Core.Path.{_≡_, refl, sym}
+use mathlib.Core.Bool.{Bool, true, false, _||_, false≢true}
 use mathlib.Core.Logic.{_≢_, _⊎_, inl, inr}
 use Prim.Native.Nat.{ℕ, _<_, _≤_}
-use native.Mathlib.Omega.{arith}
-use borrow.Author.Tests.{eqb-true, eqb-false, leb-true, not-true, ne-eqb}
+use borrow.Author.Tests.{leb-true, ne-eqb}
 use lib.Dec.{eqb, leb}
 use Rattle.words.specs.Vocab.{all, choose}
-use Rattle.words.proofs.Facts.{both, either, all-at, clash}
-use Rattle.rules.specs.Codes.{nodes, idle, clear, wait, await, leaving}
+use Rattle.words.proofs.Facts.{either, all-at}
+use Rattle.rules.specs.Codes.{nodes, clear, await}
 use Rattle.rules.specs.Probe.{servesProbes}
 use Rattle.rules.specs.Grant.{entryFor}
 use Rattle.rules.specs.Release.{awaits}
 use Rattle.rules.specs.declared.Node.{Node}
-use Rattle.coherence.proofs.Invariant.Clauses.{View, _⇒_, token, isGrant, owes, grantRule, levels, exactly, NodeOk}
+use Rattle.coherence.proofs.Invariant.Clauses.{_⇒_, token, grantRule, levels, NodeOk}
 
 -- where a token is
 pub data At : Bool → Bool → Bool → Bool → Type 0 where

@@ -1,26 +1,24 @@
 -- Kind 16, send Release, keeps the invariant.
-use mathlib.Core.Path.{_≡_, refl, sym, _∙_, ap, subst}
-use mathlib.Core.Bool.{Bool, true, false, not, _&&_, _||_, false≢true}
-use mathlib.Core.Logic.{_≢_, _⊎_, inl, inr}
+use mathlib.Core.Path.{_≡_, refl, sym, _∙_}
+use mathlib.Core.Bool.{Bool, true, false, not}
 use Prim.Native.Nat.{ℕ, _<_}
 use native.Mathlib.Decide.{ℕ-discrete}
 use native.Mathlib.Omega.{arith}
-use borrow.Author.Tests.{ne-eqb, eq-eqb}
+use borrow.Author.Tests.{eq-eqb}
 use lib.Dec.{eqb}
 use Rattle.words.specs.Vocab.{all, choose}
 use Rattle.words.proofs.Facts.{differ}
-use Rattle.rules.specs.Codes.{nodes, rightsN, tip, none, trunk, empty, release, releaseData, releaseAck}
-use Rattle.rules.specs.Cells.{parent, rights, entry, toProbe, pending, node, link, dirty, value, slotC, kept, slotD, up}
-use Rattle.rules.specs.Configuration.{carriesUp, isProbeAck, configurationOk}
+use Rattle.rules.specs.Codes.{rightsN, tip, none, trunk, empty, release, releaseData, releaseAck}
+use Rattle.rules.specs.Cells.{parent, rights, entry, toProbe, pending, node, link, dirty, value, slotD}
+use Rattle.rules.specs.Configuration.{configurationOk}
 use Rattle.rules.specs.Probe.{carried, filledC}
 use Rattle.rules.specs.Grant.{entryFor}
 use Rattle.rules.specs.Release.{sendReleaseNeeds, releaseFor, left, sendReleaseTo}
 use Rattle.rules.specs.declared.State.{State}
 use Rattle.rules.specs.declared.Link.{Link}
-use Rattle.writes.proofs.Writes.{Writes}
 use Rattle.writes.proofs.Effects.{send-release-writes}
 use Rattle.writes.proofs.Needs.{Child, SendReleaseNeeds, send-release-needs}
-use Rattle.coherence.proofs.Invariant.Clauses.{View, view, _⇒_, token, isGrant, grantRule, levels, exactly, upward, LinkOk, NodeOk, Inv}
+use Rattle.coherence.proofs.Invariant.Clauses.{view, _⇒_, grantRule, levels, exactly, LinkOk, NodeOk, Inv}
 use Rattle.coherence.proofs.Invariant.Frame.{ownView, childView, own-step}
 use Rattle.coherence.proofs.Invariant.Tokens.{token-at, token-in, everyCode, code-at, apply}
 use Rattle.coherence.proofs.Invariant.Here.{small, rights-at, codes-at, child-view, none-below, data-granted}
