@@ -1,0 +1,13 @@
+use Rattle.rules.specs.Grant.{grantValue}
+use borrow.Author.Needs.{needs}
+use Rattle.words.proofs.Laws.{steps}
+use Rattle.choices.proofs.grant.grant_value.Statement.{statement}
+use Rattle.choices.proofs.grant.grant_value.Tie as tie
+
+pub grant-value-spec : {M : Type 1} → statement M
+unfolding grantValue
+grant-value-spec =
+    tie.close (tie.spec
+    (λ c κs. search needs)
+    (λ c. search steps)
+    (λ c. search steps))

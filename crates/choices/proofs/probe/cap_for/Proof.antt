@@ -1,0 +1,12 @@
+use Rattle.rules.specs.Probe.{capFor}
+use Rattle.words.proofs.Laws.{steps}
+use Rattle.choices.proofs.probe.cap_for.Statement.{statement}
+use Rattle.choices.proofs.probe.cap_for.Tie as tie
+
+pub cap-for-spec : {M : Type 1} → statement M
+unfolding capFor
+cap-for-spec =
+    tie.close (tie.spec
+    (λ c. search steps)
+    (λ c. search steps)
+    (λ c. search steps))

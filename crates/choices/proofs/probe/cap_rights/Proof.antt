@@ -1,0 +1,11 @@
+use Rattle.rules.specs.Probe.{capRights}
+use Rattle.words.proofs.Laws.{steps}
+use Rattle.choices.proofs.probe.cap_rights.Statement.{statement}
+use Rattle.choices.proofs.probe.cap_rights.Tie as tie
+
+pub cap-rights-spec : {M : Type 1} → statement M
+unfolding capRights
+cap-rights-spec =
+    tie.close (tie.spec
+    (λ c. search steps)
+    (λ c. search steps))

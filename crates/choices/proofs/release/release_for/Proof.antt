@@ -1,0 +1,11 @@
+use Rattle.rules.specs.Release.{releaseFor}
+use Rattle.words.proofs.Laws.{steps}
+use Rattle.choices.proofs.release.release_for.Statement.{statement}
+use Rattle.choices.proofs.release.release_for.Tie as tie
+
+pub release-for-spec : {M : Type 1} → statement M
+unfolding releaseFor
+release-for-spec =
+    tie.close (tie.spec
+    (λ c. search steps)
+    (λ c. search steps))

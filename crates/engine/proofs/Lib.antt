@@ -1,0 +1,4 @@
+pub mod Children
+pub mod Effects
+pub mod Filled
+pub mod Dispatch

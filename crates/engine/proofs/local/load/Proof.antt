@@ -1,0 +1,19 @@
+use Rattle.rules.specs.Local.{loadNeeds}
+use borrow.Author.Needs.{needs}
+use Rattle.words.proofs.Laws.{choose-yes, choose-no}
+use Rattle.engine.proofs.local.load.Statement.{statement}
+use Rattle.engine.proofs.local.load.Tie as tie
+
+pub load-spec : {M : Type 1} → statement M
+unfolding loadNeeds
+load-spec =
+    tie.close (tie.spec
+    (λ c. search needs)
+    (λ c. search needs)
+    (λ c. search needs)
+    (λ c κs. search needs)
+    (λ c κs. search needs)
+    (λ c κs. search needs)
+    (λ c. choose-yes _ _ _ _ (rw (c .before .before .all-idle .ensures, c .before .before .before .node-name .ensures) at (c .before .if1 .taken)) (rw (c .accepted .ensures)))
+    (λ c κs. search needs)
+    (λ c. choose-no _ _ _ _ (rw (c .before .before .all-idle .ensures, c .before .before .before .node-name .ensures) at (c .before .if1 .left)) (c .out-of-turn .ensures)))

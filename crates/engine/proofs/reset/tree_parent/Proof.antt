@@ -1,0 +1,12 @@
+use borrow.Author.Needs.{needs}
+use Rattle.words.proofs.Laws.{steps}
+use Rattle.engine.proofs.reset.tree_parent.Statement.{statement}
+use Rattle.engine.proofs.reset.tree_parent.Tie as tie
+
+pub tree-parent-spec : {M : Type 1} → statement M
+tree-parent-spec =
+    tie.close (tie.spec
+    (λ c. search steps)
+    (λ c κs. search needs)
+    (λ c. search steps)
+    (λ c. search steps))

@@ -1,0 +1,93 @@
+// The configuration at reset, and the all-zero record of a bad tree.
+ghost use mathlib.Core.Path.{_≡_};
+ghost use Rattle.rules.specs.Cells.{blankNode, blankLink};
+ghost use Rattle.rules.specs.Step.{treeParents, startOf, blankState};
+ghost use Rattle.engine.specs.Parts.{treeParent};
+use crate::tree::parent_of;
+use rules::Link;
+use rules::Node;
+use rules::State;
+use rules::codes::Rights;
+
+fn blank_node() -> Node
+    ensures { λ r. ⌜ r ≡ blankNode ⌝ }
+{
+    Node {
+        dirty: false,
+        value: 0,
+        phase: 0,
+        purpose: 0,
+        requester: 0,
+        probe: false,
+        cap: 0,
+        release: 0,
+    }
+}
+
+fn blank_link() -> Link
+    ensures { λ r. ⌜ r ≡ blankLink ⌝ }
+{
+    Link {
+        a: 0,
+        b: 0,
+        c: 0,
+        kept: 0,
+        up: 0,
+        d: 0,
+        down: 0,
+        e: 0,
+    }
+}
+
+pub fn blank_state() -> State
+    ensures { λ r. ⌜ r ≡ blankState ⌝ }
+{
+    let node = blank_node();
+    let link = blank_link();
+    State {
+        count: 0,
+        parents: [0u8; State::NODES],
+        rights: [0u8; State::NODES],
+        entries: [0u8; State::CELLS],
+        to_probe: [false; State::CELLS],
+        pending: [false; State::CELLS],
+        nodes: [node; State::NODES],
+        links: [link; State::NODES],
+    }
+}
+
+fn tree_parent(count: u8, parents: &[u8; State::NODES], k: usize) -> u8
+    ensures { λ r. ⌜ r ≡ treeParent count (now (parents .entry)) k ⌝ }
+{
+    if k < count as usize {
+        if k == 0 {
+            return 0;
+        }
+        return parent_of(parents, k);
+    }
+    0
+}
+
+fn tree_parents(count: u8, parents: &[u8; State::NODES]) -> [u8; State::NODES]
+    ensures { λ r. ⌜ r ≡ treeParents count (now (parents .entry)) ⌝ }
+{
+    let mut row = [0u8; State::NODES];
+    for k in 0..State::NODES {
+        row[k] = tree_parent(count, parents, k);
+    }
+    row
+}
+
+pub fn start(count: u8, parents: &[u8; State::NODES], first: u64) -> State
+    ensures { λ r. ⌜ r ≡ startOf count (now (parents .entry)) first ⌝ }
+{
+    let row = tree_parents(count, parents);
+    let mut root = blank_node();
+    root.value = first;
+    let mut s = blank_state();
+    s.count = count;
+    s.parents = row;
+    s.rights[0] = Rights::TIP;
+    s.nodes[0] = root;
+    s
+}

@@ -1,0 +1,4 @@
+pub mod Numbers
+pub mod Refusals
+pub mod Onward
+pub mod Values

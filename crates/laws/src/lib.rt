@@ -1,0 +1,1 @@
+// Laws of the step, proved from the definitions alone. No code.

@@ -1,0 +1,12 @@
+use mathlib.Core.Path.{_∙_, ap}
+use borrow.Author.Needs.{needs}
+use Rattle.model.specs.Answered.{answered}
+use Rattle.model.proofs.Config.onward.Statement.{statement}
+use Rattle.model.proofs.Config.onward.Tie as tie
+
+pub onward-spec : {M : Type 1} → statement M
+onward-spec =
+    tie.close (tie.spec
+    (λ c κs. search needs)
+    (λ c κs. search needs)
+    (λ c. c .answered .ensures ∙ ap answered (c .before .onward .ensures)))
