@@ -1,0 +1,15 @@
+use borrow.Author.Needs.{needs}
+use Rattle.trails.proofs.Starting.{firsts}
+use Rattle.trails.proofs.input.first_ok.Statement.{statement}
+use Rattle.trails.proofs.input.first_ok.Tie as tie
+
+pub first-ok-spec : {M : Type 1} → statement M
+first-ok-spec =
+    tie.close (tie.spec
+    (λ c κs. search needs)
+    (λ c. search firsts)
+    (λ c κs. search needs)
+    (λ c. search firsts)
+    (λ c. search firsts)
+    (λ c. search needs)
+    (λ c. search firsts))

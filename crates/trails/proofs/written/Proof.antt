@@ -1,0 +1,16 @@
+use borrow.Author.Needs.{needs}
+use Rattle.trails.proofs.Starting.{wrong-version, no-first, with-first, first-told}
+use Rattle.trails.proofs.written.Statement.{statement}
+use Rattle.trails.proofs.written.Tie as tie
+
+pub written-spec : {M : Type 1} → statement M
+written-spec =
+    tie.close (tie.spec
+    (λ c κs. search needs)
+    (λ c κs. search needs)
+    (λ c. (wrong-version _ (c .before .before .before .version .ensures) (c .before .before .if1 .taken) (c .put-bad .ensures .0), search needs))
+    (λ c κs. search needs)
+    (λ c κs. search needs)
+    (λ c. (no-first _ (c .before .before .before .before .before .version .ensures) (c .before .before .before .before .if1 .left) (c .before .before .before .first-ok .ensures) (c .before .before .if2 .taken) (c .put-bad2 .ensures .0), search needs))
+    (λ c κs. first-told _ (c .before .before .first-ok .ensures) (c .before .if2 .left))
+    (λ c. (with-first _ (c .before .before .before .before .before .version .ensures) (c .before .before .before .before .if1 .left) (c .before .before .before .first-ok .ensures) (c .before .before .if2 .left) (c .started .ensures .0), search needs)))

@@ -1,0 +1,47 @@
+// The trail of document 01: from the bytes of an input to the text that the program prints.
+ghost use mathlib.Core.Path.{_≡_};
+ghost use Prim.Native.Nat.{_≤_};
+ghost use lib.ListN.{length, take, drop};
+ghost use Rattle.io.specs.Counts.{Counts};
+ghost use Rattle.trails.specs.Text.{Wrote, room};
+ghost use Rattle.trails.specs.Trail.{trailOf};
+use input::first_ok;
+use input::version;
+use run::started;
+use text::put_bad;
+
+mod text;
+mod input;
+mod run;
+
+// The room that the longest text takes, and more.
+pub const ROOM: usize = 262144;
+
+// Fills the start of the lent buffer with the trail's whole text, and answers its length. What stands after it stays.
+pub fn trail(input: &[u8], out: &mut [u8; ROOM]) -> usize
+    ensures { λ r. ⌜ take r (now (out .exit)) ≡ trailOf (now (input .entry)) ⌝ }
+    ensures { λ r. ⌜ r ≡ length (trailOf (now (input .entry))) ⌝ }
+    ensures { λ r. ⌜ drop r (now (out .exit)) ≡ drop r (now (out .entry)) ⌝ }
+    ensures { λ r. ⌜ Counts r (now (out .exit)) ⌝ }
+{
+    // Lent as a slice, the array shows the proof how long it is.
+    length_of(out);
+    written(input, out)
+}
+
+fn length_of(out: &[u8]) -> usize {
+    out.len()
+}
+
+fn written(input: &[u8], out: &mut [u8; ROOM]) -> usize
+    ensures { λ r. ⌜ Wrote (now (out .entry)) 0 (trailOf (now (input .entry))) (now (out .exit)) r ⌝ }
+    ensures { λ r. ⌜ r ≤ room ⌝ }
+{
+    if version(input) != 1 {
+        return put_bad(out, 0, 0);
+    }
+    if !first_ok(input) {
+        return put_bad(out, 0, 1);
+    }
+    started(input, out)
+}
