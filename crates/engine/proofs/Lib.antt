@@ -1,4 +1,3 @@
 pub mod Children
 pub mod Effects
-pub mod Filled
 pub mod Dispatch

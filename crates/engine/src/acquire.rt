@@ -52,7 +52,8 @@ pub fn take_acquire(s: State, x: usize, k: usize) -> Answer
     let mut m = s.nodes[x];
     let mut l = s.links[k];
     let rights = s.rights[x];
-    let entry = s.entries[x * State::NODES + k];
+    let cell = x * State::NODES + k;
+    let entry = s.entries[cell];
     let empty = sets_empty(&s.to_probe, &s.pending, x);
     let fits = acquire_fits(l.a, entry);
     let ok = (l.a != Message::EMPTY) & (m.phase == Phase::IDLE) & !m.probe & empty & fits;

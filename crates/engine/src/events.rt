@@ -7,6 +7,7 @@ use crate::tree::is_leaf;
 use rules::Event;
 use rules::State;
 
+// ""Other" is a child for 7, 8, 11, 17"
 fn takes_child(kind: u8) -> bool
     ensures { λ r. ⌜ r ≡ takesChild kind ⌝ }
 {
@@ -16,6 +17,7 @@ fn takes_child(kind: u8) -> bool
         | (kind == Event::TAKE_RELEASE)
 }
 
+// "other not as named"
 fn other_ok(count: u8, parents: &[u8; State::NODES], ev: Event) -> bool
     ensures { λ r. ⌜ r ≡ otherIn count (now (parents .entry)) ev ⌝ }
 {
@@ -29,6 +31,7 @@ fn other_ok(count: u8, parents: &[u8; State::NODES], ev: Event) -> bool
     ev.other == 0
 }
 
+// "kind not 1..19; node not in the tree; other not as named; value not 0 where it must be"
 pub fn event_ok(count: u8, parents: &[u8; State::NODES], ev: Event) -> bool
     ensures { λ r. ⌜ r ≡ eventIn count (now (parents .entry)) ev ⌝ }
 {
@@ -39,6 +42,7 @@ pub fn event_ok(count: u8, parents: &[u8; State::NODES], ev: Event) -> bool
         & ((ev.kind == Event::STORE) | (ev.value == 0))
 }
 
+// "kinds 1 to 4 at a non-leaf"
 fn leaf_kind(kind: u8) -> bool
     ensures { λ r. ⌜ r ≡ leafKind kind ⌝ }
 {
@@ -48,6 +52,7 @@ fn leaf_kind(kind: u8) -> bool
         | (kind == Event::STORE_MISS)
 }
 
+// "5, 6, 9, 10, 12, 13, 16, 19 at the root"
 fn below_root_kind(kind: u8) -> bool
     ensures { λ r. ⌜ r ≡ belowRootKind kind ⌝ }
 {
@@ -61,6 +66,7 @@ fn below_root_kind(kind: u8) -> bool
         | (kind == Event::TAKE_RELEASE_ACK)
 }
 
+// "14, 15, 18 at a leaf"
 fn above_leaf_kind(kind: u8) -> bool
     ensures { λ r. ⌜ r ≡ aboveLeafKind kind ⌝ }
 {

@@ -87,7 +87,8 @@ pub fn send_grant(s: State, x: usize, choice: u8) -> Answer
     }
     let mut l = s.links[q];
     let rights = s.rights[x];
-    let entry = s.entries[x * State::NODES + q];
+    let cell = x * State::NODES + q;
+    let entry = s.entries[cell];
     let name = node_name(&s.entries, rights, x);
     let alone = others_none(&s.entries, x, q);
     let may = may_grant(m.purpose, choice, name, rights, alone, entry);
@@ -99,7 +100,7 @@ pub fn send_grant(s: State, x: usize, choice: u8) -> Answer
         m.phase = Phase::AWAIT;
         t.nodes[x] = m;
         let given = entry_for(message);
-        t.entries[x * State::NODES + q] = given;
+        t.entries[cell] = given;
         l.d = message;
         l.down = value;
         t.links[q] = l;

@@ -10,6 +10,7 @@ use rules::codes::Entry;
 use rules::codes::Name;
 use rules::codes::Rights;
 
+// "its rights, except that Tip is called T with any Trunk entry, else TB with any Branch entry, else TT"
 pub fn name_of(r: u8, trunks: bool, branches: bool) -> u8
     ensures { λ res. ⌜ res ≡ nameOf r trunks branches ⌝ }
 {

@@ -36,14 +36,15 @@ pub fn send_probe(s: State, x: usize, k: usize) -> Answer
     ensures { λ r. ⌜ r ≡ turned (sendProbeNeeds s x k) s 0 (sendProbeTo s x k) ⌝ }
 {
     let mut l = s.links[k];
-    let wanted = s.to_probe[x * State::NODES + k];
+    let cell = x * State::NODES + k;
+    let wanted = s.to_probe[cell];
     let ok = wanted & (l.b == Message::EMPTY);
     if ok {
         let mut t = s;
         let m = s.nodes[x];
         let cap = cap_for(m.probe, m.cap, m.purpose);
-        t.to_probe[x * State::NODES + k] = false;
-        t.pending[x * State::NODES + k] = true;
+        t.to_probe[cell] = false;
+        t.pending[cell] = true;
         l.b = cap;
         t.links[k] = l;
         return accepted(0, t);
@@ -121,8 +122,9 @@ pub fn take_probe_ack(s: State, x: usize, k: usize) -> Answer
     ensures { λ r. ⌜ r ≡ turned (takeProbeAckNeeds s x k) s 0 (takeProbeAckTo s x k) ⌝ }
 {
     let mut l = s.links[k];
-    let entry = s.entries[x * State::NODES + k];
-    let waited = s.pending[x * State::NODES + k];
+    let cell = x * State::NODES + k;
+    let entry = s.entries[cell];
+    let waited = s.pending[cell];
     let acks = is_probe_ack(l.c);
     let fits = data_fits(l.c, entry);
     let ok = acks & waited & (l.kept <= entry) & fits;
@@ -131,8 +133,8 @@ pub fn take_probe_ack(s: State, x: usize, k: usize) -> Answer
         let m = s.nodes[x];
         let taken = data_taken(m, l);
         t.nodes[x] = taken;
-        t.entries[x * State::NODES + k] = l.kept;
-        t.pending[x * State::NODES + k] = false;
+        t.entries[cell] = l.kept;
+        t.pending[cell] = false;
         l.c = Message::EMPTY;
         l.kept = Rights::N;
         l.up = 0;

@@ -64,7 +64,8 @@ pub fn take_release(s: State, x: usize, k: usize) -> Answer
 {
     let m = s.nodes[x];
     let mut l = s.links[k];
-    let entry = s.entries[x * State::NODES + k];
+    let cell = x * State::NODES + k;
+    let entry = s.entries[cell];
     let releases = is_release(l.c);
     let granting = awaits(m.phase, m.requester, k);
     let fits = data_fits(l.c, entry);
@@ -74,8 +75,8 @@ pub fn take_release(s: State, x: usize, k: usize) -> Answer
         let mut taken = data_taken(m, l);
         taken.release = k as u8;
         t.nodes[x] = taken;
-        t.entries[x * State::NODES + k] = Entry::NONE;
-        t.to_probe[x * State::NODES + k] = false;
+        t.entries[cell] = Entry::NONE;
+        t.to_probe[cell] = false;
         l.c = Message::EMPTY;
         l.kept = Rights::N;
         l.up = 0;

@@ -56,6 +56,7 @@ pub fn blank_state() -> State
     }
 }
 
+// A parent of nodes 1 to the last is the caller's; elsewhere it is zero.
 fn tree_parent(count: u8, parents: &[u8; State::NODES], k: usize) -> u8
     ensures { λ r. ⌜ r ≡ treeParent count (now (parents .entry)) k ⌝ }
 {
@@ -78,6 +79,7 @@ fn tree_parents(count: u8, parents: &[u8; State::NODES]) -> [u8; State::NODES]
     row
 }
 
+// "root Tip, clean, first value; all others N with value 0; entries None; everything idle and empty"
 pub fn start(count: u8, parents: &[u8; State::NODES], first: u64) -> State
     ensures { λ r. ⌜ r ≡ startOf count (now (parents .entry)) first ⌝ }
 {

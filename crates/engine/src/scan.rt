@@ -19,6 +19,7 @@ use rules::codes::Phase;
 use rules::codes::Purpose;
 use rules::codes::Rights;
 
+// "a code outside its list": of a node; an open probe has a cap
 fn node_codes(r: u8, m: Node) -> bool
     ensures { λ res. ⌜ res ≡ nodeCodes r m ⌝ }
 {
@@ -29,18 +30,21 @@ fn node_codes(r: u8, m: Node) -> bool
         & (!m.probe | (m.cap != Cap::NONE))
 }
 
+// "a cap on a closed probe"
 fn cap_rule(m: Node) -> bool
     ensures { λ r. ⌜ r ≡ capRule m ⌝ }
 {
     m.probe | (m.cap == Cap::NONE)
 }
 
+// "rights N with dirty set or value not 0, or B with dirty set"
 fn rights_rule(r: u8, m: Node) -> bool
     ensures { λ res. ⌜ res ≡ rightsRule r m ⌝ }
 {
     ((r != Rights::N) | (!m.dirty & (m.value == 0))) & ((r != Rights::B) | !m.dirty)
 }
 
+// "Idle with a purpose, or another phase without; evict outside Clear, LetGo, Leaving, or load/store inside LetGo or Leaving"
 fn phase_rule(phase: u8, purpose: u8) -> bool
     ensures { λ r. ⌜ r ≡ phaseRule phase purpose ⌝ }
 {
@@ -63,6 +67,7 @@ fn node_rule(r: u8, m: Node) -> bool
     codes & cap & rights & phase
 }
 
+// "a code outside its list": of a link; "kept rights N or B"
 fn link_codes(l: Link) -> bool
     ensures { λ r. ⌜ r ≡ linkCodes l ⌝ }
 {
@@ -74,6 +79,7 @@ fn link_codes(l: Link) -> bool
         & (l.e <= Message::GRANT_ACK)
 }
 
+// "a value in a message without data; kept rights on a message other than ProbeAck; a nonzero field in an empty slot"
 fn message_rule(l: Link) -> bool
     ensures { λ r. ⌜ r ≡ messageRule l ⌝ }
 {
@@ -90,6 +96,7 @@ fn link_rule(l: Link) -> bool
     codes & message
 }
 
+// "an entry, set member .. that isn't a child of that node; an entry not None at rights N; a Trunk entry at rights other than Tip"
 fn pair_rule(r: u8, child: bool, e: u8, wanted: bool, waited: bool) -> bool
     ensures { λ res. ⌜ res ≡ pairRule r child e wanted waited ⌝ }
 {
@@ -138,6 +145,7 @@ fn row_ok<'a>(
     true
 }
 
+// "a full slot on the root or beyond the last node"
 fn slots_empty(l: Link) -> bool
     ensures { λ r. ⌜ r ≡ slotsEmpty l ⌝ }
 {
@@ -148,6 +156,7 @@ fn slots_empty(l: Link) -> bool
         & (l.e == Message::EMPTY)
 }
 
+// "a nonzero field beyond the last node"
 fn blank(r: u8, m: Node) -> bool
     ensures { λ res. ⌜ res ≡ blank r m ⌝ }
 {
@@ -162,6 +171,7 @@ fn blank(r: u8, m: Node) -> bool
         & (m.release == 0)
 }
 
+// the root and what lies beyond the last node; "a nonzero parent at the root"
 fn stands_rule(count: u8, x: usize, p: u8, r: u8, m: Node, l: Link) -> bool
     ensures { λ res. ⌜ res ≡ standsRule count x p r m l ⌝ }
 {
@@ -177,6 +187,7 @@ fn stands_ok(count: u8, parents: &[u8; State::NODES], x: usize, r: u8, m: Node, 
     stands_rule(count, x, p, r, m, l)
 }
 
+// "Give or Await at a leaf; a requester missing for load/store at a non-leaf, or present elsewhere"
 fn leaf_rule(leaf: bool, m: Node) -> bool
     ensures { λ r. ⌜ r ≡ leafRule leaf m ⌝ }
 {
@@ -185,6 +196,7 @@ fn leaf_rule(leaf: bool, m: Node) -> bool
             == (((m.purpose == Purpose::LOAD) | (m.purpose == Purpose::STORE)) & !leaf))
 }
 
+// "requester or release child that isn't a child of that node"
 fn serves(leaf: bool, asks: bool, leaves: bool, m: Node) -> bool
     ensures { λ r. ⌜ r ≡ serves leaf asks leaves m ⌝ }
 {

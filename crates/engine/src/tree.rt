@@ -19,7 +19,8 @@ pub fn parent_of(parents: &[u8; State::NODES], k: usize) -> u8
     at(parents, k)
 }
 
-pub fn parent_ok(count: u8, parents: &[u8; State::NODES], k: usize) -> bool
+// "a parent not smaller than its node": nothing is asked of the root or beyond the last node
+fn parent_ok(count: u8, parents: &[u8; State::NODES], k: usize) -> bool
     ensures { λ r. ⌜ r ≡ parentOk count (now (parents .entry)) k ⌝ }
 {
     let p = parent_of(parents, k);
@@ -37,6 +38,7 @@ fn parents_ok(count: u8, parents: &[u8; State::NODES]) -> bool
     true
 }
 
+// "node count not 2..16, or, from node 1 upward, a parent not smaller than its node"
 pub fn tree_ok(count: u8, parents: &[u8; State::NODES]) -> bool
     ensures { λ r. ⌜ r ≡ treeOk count (now (parents .entry)) ⌝ }
 {
@@ -66,6 +68,7 @@ fn has_child(count: u8, parents: &[u8; State::NODES], x: usize) -> bool
     false
 }
 
+// "A leaf has no child."
 pub fn is_leaf(count: u8, parents: &[u8; State::NODES], x: usize) -> bool
     ensures { λ r. ⌜ r ≡ leafIn count (now (parents .entry)) x ⌝ }
 {

@@ -80,4 +80,3 @@ module _ (n r : ℕ) (xs : List ℕ) (k : Counts r xs) (f : Fewest 10 1 n r) (h 
 
   pub digits-text : take r xs ≡ digits 10 r n → take r xs ≡ decimal n
   digits-text e = e ∙ digits-spelled r 20 n (few n r f h) f
-

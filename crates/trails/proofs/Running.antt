@@ -34,7 +34,7 @@ module _ {o₀ t o o′ : List ℕ} {p p′ : ℕ} where
   left-less u rest l w =
       record {
         buffer = rw (w .buffer, w .next, sets-then o p u rest) (l .buffer);
-        size = rw (w .next) (omega (arith, l .size, length-append u rest))
+        size = rw (w .next) (omega (arith, l .size, length-append u rest));
       }
 
   pub left-none : (rest : List ℕ) → Left o₀ t o p rest → Wrote o p rest o′ p′ → Wrote o₀ 0 t o′ p′
@@ -96,8 +96,8 @@ turned {o₀} {t} {o} {o′} {p} {p′} s at i c {r} {e} {a} l h q ok f g w =
     let d : e ≡ x = f ∙ ap eventOf q in
     let k : a ≡ b = g ∙ ap (λ (y : Event). answered (onwardOf c y)) d in
     let v : Wrote o p (line i (x .kind) (x .node) (b .number) (b .value)) o′ p′ =
-        subst (λ (z : Answer). Wrote o p (line i (x .kind) (x .node) (z .number) (z .value)) o′ p′) k
-        (subst (λ (y : Event). Wrote o p (line i (y .kind) (y .node) (a .number) (a .value)) o′ p′) d w) in
+    subst (λ (z : Answer). Wrote o p (line i (x .kind) (x .node) (z .number) (z .value)) o′ p′) k
+    (subst (λ (y : Event). Wrote o p (line i (y .kind) (y .node) (a .number) (a .value)) o′ p′) d w) in
     subst⁻¹ (λ (z : Answer). Left o₀ t o′ p′ (eventsFrom (more (i + 1)) s (at + recordSize) (i + 1) (z .config .state))) k
     (left-less (lineOf i x (onwardOf c x)) _ (rw (goes (more i) (more (i + 1)) s at i c (omega arith) ok) at l) v)
 

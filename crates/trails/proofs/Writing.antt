@@ -33,7 +33,7 @@ module _ {a b c : List ℕ} {at p r : ℕ} {t u : List ℕ} where
   wrote-then f g =
       record {
         buffer = g .buffer ∙ rw (f .buffer, f .next) (sets-then a at t u);
-        next = g .next ∙ rw (f .next, length-append) (omega arith)
+        next = g .next ∙ rw (f .next, length-append) (omega arith);
       }
 
 -- nothing written

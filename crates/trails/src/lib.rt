@@ -10,9 +10,9 @@ use input::version;
 use run::started;
 use text::put_bad;
 
-mod text;
 mod input;
 mod run;
+mod text;
 
 // The room that the longest text takes, and more.
 pub const ROOM: usize = 262144;

@@ -39,7 +39,14 @@ fn put_number(out: &mut [u8; ROOM], at: usize, n: u64, after: u8) -> usize
     put_byte(out, p, after)
 }
 
-pub fn put_line(out: &mut [u8; ROOM], at: usize, index: u64, ev: Event, number: u8, value: u64) -> usize
+pub fn put_line(
+    out: &mut [u8; ROOM],
+    at: usize,
+    index: u64,
+    ev: Event,
+    number: u8,
+    value: u64,
+) -> usize
     requires { ⌜ at + 105 ≤ room ⌝ }
     requires { ⌜ index < 100000 ⌝ }
     ensures { λ r. ⌜ Wrote (now (out .entry)) at (line index (ev .kind) (ev .node) number value) (now (out .exit)) r ⌝ }

@@ -12,6 +12,6 @@ trail-spec =
     (λ c κs. search needs)
     (λ c κs. search needs)
     (λ c. let w = c .written .ensures in
-      let o = c .before .before .before .before .before .before .args .out .now in
-      let n : length o ≡ room = search needs in
-      (text-at-start o _ n (w .1) (w .0), (text-size o _ n (w .1) (w .0), (rest-stays o _ n (w .1) (w .0), text-counts o _ n (w .1) (w .0))))))
+    let o = c .before .before .before .before .before .before .args .out .now in
+    let n : length o ≡ room = search needs in
+    (text-at-start o _ n (w .1) (w .0), (text-size o _ n (w .1) (w .0), (rest-stays o _ n (w .1) (w .0), text-counts o _ n (w .1) (w .0))))))

@@ -1,5 +1,4 @@
-use Rattle.rules.specs.Acquire.{sendAcquireNeeds}
-use Rattle.rules.specs.Acquire.{sendAcquireTo}
+use Rattle.rules.specs.Acquire.{sendAcquireNeeds, sendAcquireTo}
 use borrow.Author.Needs.{needs}
 use Rattle.words.proofs.Laws.{choose-yes, choose-no}
 use Rattle.engine.proofs.acquire.send_acquire.Statement.{statement}

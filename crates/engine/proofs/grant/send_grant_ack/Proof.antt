@@ -1,5 +1,4 @@
-use Rattle.rules.specs.Grant.{sendGrantAckNeeds}
-use Rattle.rules.specs.Grant.{sendGrantAckTo}
+use Rattle.rules.specs.Grant.{sendGrantAckNeeds, sendGrantAckTo}
 use borrow.Author.Needs.{needs}
 use Rattle.words.proofs.Laws.{choose-yes, choose-no}
 use Rattle.engine.proofs.grant.send_grant_ack.Statement.{statement}

@@ -1,5 +1,4 @@
-use Rattle.rules.specs.Grant.{takeGrantNeeds}
-use Rattle.rules.specs.Grant.{takeGrantTo}
+use Rattle.rules.specs.Grant.{takeGrantNeeds, takeGrantTo}
 use borrow.Author.Needs.{needs}
 use Rattle.words.proofs.Laws.{choose-yes, choose-no}
 use Rattle.engine.proofs.grant.take_grant.Statement.{statement}

@@ -1,5 +1,4 @@
-use Rattle.rules.specs.Grant.{takeGrantAckNeeds}
-use Rattle.rules.specs.Grant.{takeGrantAckTo}
+use Rattle.rules.specs.Grant.{takeGrantAckNeeds, takeGrantAckTo}
 use native.Mathlib.Omega.{arith}
 use borrow.Author.Needs.{needs}
 use mathlib.Core.Bool.{and-true, and-false}

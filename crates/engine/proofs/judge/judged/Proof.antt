@@ -14,5 +14,5 @@ judged-spec =
     (λ c. search steps)
     (λ c κs. search needs)
     (λ c. search steps)
-    (λ c κs. let b = bounds (c .before .before .before .before .before .before .before .before .args .t1) (c .before .before .before .before .before .before .before .before .args .ev) (c .before .before .before .before .before .before .before .before .pre) (search tests) in search needs)
+    (λ c κs. let at = c .before .before .before .before .before .before .before .before in let b = bounds (at .args .t1) (at .args .ev) (at .pre) (search tests) in search needs)
     (λ c. search steps))

@@ -1,5 +1,4 @@
-use Rattle.rules.specs.Local.{loadMissNeeds}
-use Rattle.rules.specs.Local.{missTo}
+use Rattle.rules.specs.Local.{loadMissNeeds, missTo}
 use borrow.Author.Needs.{needs}
 use Rattle.words.proofs.Laws.{choose-yes, choose-no}
 use Rattle.engine.proofs.local.load_miss.Statement.{statement}

@@ -1,5 +1,4 @@
-use Rattle.rules.specs.Local.{storeNeeds}
-use Rattle.rules.specs.Local.{storeTo}
+use Rattle.rules.specs.Local.{storeNeeds, storeTo}
 use borrow.Author.Needs.{needs}
 use Rattle.words.proofs.Laws.{choose-yes, choose-no}
 use Rattle.engine.proofs.local.store.Statement.{statement}

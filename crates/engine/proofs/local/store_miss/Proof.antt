@@ -1,5 +1,4 @@
-use Rattle.rules.specs.Local.{storeMissNeeds}
-use Rattle.rules.specs.Local.{missTo}
+use Rattle.rules.specs.Local.{storeMissNeeds, missTo}
 use borrow.Author.Needs.{needs}
 use Rattle.words.proofs.Laws.{choose-yes, choose-no}
 use Rattle.engine.proofs.local.store_miss.Statement.{statement}

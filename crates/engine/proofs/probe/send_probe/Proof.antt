@@ -1,5 +1,4 @@
-use Rattle.rules.specs.Probe.{sendProbeNeeds}
-use Rattle.rules.specs.Probe.{sendProbeTo}
+use Rattle.rules.specs.Probe.{sendProbeNeeds, sendProbeTo}
 use borrow.Author.Needs.{needs}
 use Rattle.words.proofs.Laws.{choose-yes, choose-no}
 use Rattle.engine.proofs.probe.send_probe.Statement.{statement}
@@ -17,10 +16,6 @@ send-probe-spec =
     (λ c. search needs)
     (λ c. search needs)
     (λ c κs. search needs)
-    (λ c. search needs)
-    (λ c. search needs)
-    (λ c. search needs)
-    (λ c. search needs)
     (λ c. search needs)
     (λ c. search needs)
     (λ c. search needs)

@@ -1,5 +1,4 @@
-use Rattle.rules.specs.Probe.{sendProbeAckNeeds}
-use Rattle.rules.specs.Probe.{sendProbeAckTo}
+use Rattle.rules.specs.Probe.{sendProbeAckNeeds, sendProbeAckTo}
 use native.Mathlib.Omega.{arith}
 use borrow.Author.Needs.{needs}
 use Rattle.words.proofs.Laws.{choose-yes, choose-no}

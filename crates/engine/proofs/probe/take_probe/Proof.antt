@@ -1,5 +1,4 @@
-use Rattle.rules.specs.Probe.{takeProbeNeeds}
-use Rattle.rules.specs.Probe.{takeProbeTo}
+use Rattle.rules.specs.Probe.{takeProbeNeeds, takeProbeTo}
 use borrow.Author.Needs.{needs}
 use Rattle.words.proofs.Laws.{choose-yes, choose-no}
 use Rattle.engine.proofs.probe.take_probe.Statement.{statement}

@@ -1,5 +1,4 @@
-use Rattle.rules.specs.Release.{sendReleaseNeeds}
-use Rattle.rules.specs.Release.{sendReleaseTo}
+use Rattle.rules.specs.Release.{sendReleaseNeeds, sendReleaseTo}
 use borrow.Author.Needs.{needs}
 use Rattle.words.proofs.Laws.{choose-yes, choose-no}
 use Rattle.engine.proofs.release.send_release.Statement.{statement}

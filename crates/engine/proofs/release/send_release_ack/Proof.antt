@@ -1,5 +1,4 @@
-use Rattle.rules.specs.Release.{sendReleaseAckNeeds}
-use Rattle.rules.specs.Release.{sendReleaseAckTo}
+use Rattle.rules.specs.Release.{sendReleaseAckNeeds, sendReleaseAckTo}
 use native.Mathlib.Omega.{arith}
 use borrow.Author.Needs.{needs}
 use Rattle.words.proofs.Laws.{told-true, told-false, choose-yes, choose-no}

@@ -1,5 +1,4 @@
-use Rattle.rules.specs.Release.{takeReleaseAckNeeds}
-use Rattle.rules.specs.Release.{takeReleaseAckTo}
+use Rattle.rules.specs.Release.{takeReleaseAckNeeds, takeReleaseAckTo}
 use borrow.Author.Needs.{needs}
 use Rattle.words.proofs.Laws.{choose-yes, choose-no}
 use Rattle.engine.proofs.release.take_release_ack.Statement.{statement}

@@ -1,4 +1,3 @@
-use Rattle.engine.proofs.Filled.{fill-next}
 use mathlib.Core.Path.{_≡_}
 use Prim.Native.Nat.{_≤_, _-_}
 use Rattle.rules.specs.Codes.{nodes}
@@ -19,10 +18,10 @@ tree-parents-spec =
     tie.close (tie.spec
     Inv-loop
     (λ count parents row₀ k₀ row k. nodes - k)
-    (λ c. search (loops, fill-next))
-    (λ c κs. search (loops, fill-next))
-    (λ c. search (loops, fill-next))
-    (λ c. search (loops, fill-next))
-    (λ c. search (loops, fill-next))
-    (λ c. search (loops, fill-next))
-    (λ c. search (loops, fill-next)))
+    (λ c. search loops)
+    (λ c κs. search loops)
+    (λ c. search loops)
+    (λ c. search loops)
+    (λ c. search loops)
+    (λ c. search loops)
+    (λ c. search loops))

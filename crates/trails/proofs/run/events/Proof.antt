@@ -55,9 +55,12 @@ events-spec =
     (λ c. search needs)
     (λ c. search needs)
     (λ c. search needs)
-    (λ c. let r = c .before .before .before .«record» in
-      (search needs, search needs, search needs,
-      byte-more (r .«record») (c .before .before .before .before .before .before .before .before .args .input .now) (c .before .before .before .before .before .events .at) (r .k) (r .inv .1) (search needs) (search needs) (r .inv .3)))
+    (λ c. let r = c .before .before .before .«record» in (
+      search needs,
+      search needs,
+      search needs,
+      byte-more (r .«record») (c .before .before .before .before .before .before .before .before .args .input .now) (c .before .before .before .before .before .events .at) (r .k) (r .inv .1) (search needs) (search needs) (r .inv .3),
+    ))
     (λ c. search needs)
     (λ c κs. search needs)
     (λ c κs. search needs)
@@ -67,12 +70,16 @@ events-spec =
     (λ c. search needs)
     (λ c. search needs)
     (λ c. let r = c .before .before .before .before .before .before .before .before .before .before .«record» in
-      let s = c .before .before .before .before .before .before .before .before .before .before .before .before .before .before .before .args .input .now in
-      let at = c .before .before .before .before .before .before .before .before .before .before .before .before .events .at in
-      let q = copied s (r .«record») at (r .k) (r .inv .1) (c .before .before .before .before .before .before .before .before .before .record-test .taken) (r .inv .0) (r .inv .3) in
-      let ok = whole s at q (c .before .before .before .before .before .before .before .number .ensures) (c .before .before .before .before .before .before .if3 .left) (search needs) in
-      (search needs, search needs, search needs, search needs,
-      turned s at _ _ (c .before .before .before .before .before .before .before .before .before .before .before .before .events .inv .4) (search needs) q ok (c .before .before .before .before .event .ensures) (c .before .before .before .onward .ensures) (c .before .put-line .ensures .0)))
+    let s = c .before .before .before .before .before .before .before .before .before .before .before .before .before .before .before .args .input .now in
+    let at = c .before .before .before .before .before .before .before .before .before .before .before .before .events .at in
+    let q = copied s (r .«record») at (r .k) (r .inv .1) (c .before .before .before .before .before .before .before .before .before .record-test .taken) (r .inv .0) (r .inv .3) in
+    let ok = whole s at q (c .before .before .before .before .before .before .before .number .ensures) (c .before .before .before .before .before .before .if3 .left) (search needs) in (
+      search needs,
+      search needs,
+      search needs,
+      search needs,
+      turned s at _ _ (c .before .before .before .before .before .before .before .before .before .before .before .before .events .inv .4) (search needs) q ok (c .before .before .before .before .event .ensures) (c .before .before .before .onward .ensures) (c .before .put-line .ensures .0),
+    ))
     (λ c κs. search needs)
     (λ c. let j = c .before .before .before in let g = stopped j in (ends _ _ _ _ _ (j .before .events .inv .4) (g .0) (g .1) (search needs) (c .put-end .ensures .0), search needs))
     (λ c κs. search needs)
