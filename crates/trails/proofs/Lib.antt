@@ -4,3 +4,4 @@ pub mod Reading
 pub mod Lines
 pub mod Running
 pub mod Starting
+pub mod Cases

@@ -1,13 +1,13 @@
 -- The texts of the trail, put together from what was written, and how long they are.
-use mathlib.Core.Path.{_≡_, refl, _∙_, sym, ap}
-use mathlib.Core.List.{List, [], _∷_, _++_}
-use Prim.Native.Nat.{ℕ, zero, suc, _+_, _*_, _^_, _<_, _≤_}
+use mathlib.Core.Path.{_≡_}
+use mathlib.Core.List.{List, [], _∷_}
+use Prim.Native.Nat.{ℕ, _+_, _^_, _<_, _≤_}
 use native.Mathlib.Numerals.{add-one}
 use native.Mathlib.Omega.{arith}
-use lib.ListN.{length, take, getD, length-append, List·getD-eq-default}
+use lib.ListN.{length, length-append, List·getD-eq-default}
 use Rattle.rules.specs.Names.{named}
 use Rattle.rules.specs.declared.State.{State}
-use Rattle.trails.specs.Text.{Wrote, space, newline, decimal, spelled, field, line, nameText, nameTexts, names}
+use Rattle.trails.specs.Text.{Wrote, space, newline, decimal, field, line, nameText, nameTexts, names}
 use Rattle.trails.proofs.Writing.{wrote-then, wrote-none}
 use Rattle.trails.proofs.Decimal.{spelled-short}
 

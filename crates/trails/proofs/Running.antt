@@ -1,14 +1,13 @@
 -- The loop over the events: what was written and what is left make the whole text.
 use mathlib.Core.Path.{_≡_, refl, _∙_, sym, ap, subst, subst⁻¹}
 use mathlib.Core.Bool.{Bool, true, false, _&&_}
-use mathlib.Core.List.{List, [], _∷_, _++_}
-use Prim.Native.Nat.{ℕ, zero, suc, _+_, _-_, _*_, _<_, _≤_}
+use mathlib.Core.List.{List, _++_}
+use Prim.Native.Nat.{ℕ, zero, suc, _+_, _-_, _<_, _≤_}
 use native.Mathlib.Omega.{arith}
 use borrow.Author.Tests.{le-leb, lt-leb, eq-eqb, ne-eqb}
-use lib.ListN.{length, take, drop, getD, set, length-append, length-take, length-drop}
+use lib.ListN.{length, take, drop, getD, set, length-append}
 use lib.Seq.{sets, take-all}
 use lib.Dec.{leb, eqb}
-use Rattle.words.specs.Vocab.{choose}
 use Rattle.words.proofs.Facts.{choose-true, choose-false}
 use Rattle.rules.specs.Step.{onwardOf}
 use Rattle.rules.specs.declared.State.{State}

@@ -1,21 +1,19 @@
 -- The first record, reset, and the trail as a whole.
-use mathlib.Core.Path.{_≡_, refl, _∙_, sym, ap, subst, subst⁻¹}
+use mathlib.Core.Path.{_≡_, _∙_, sym, ap, subst, subst⁻¹}
 use mathlib.Core.Bool.{Bool, true, false, not, _&&_}
-use mathlib.Core.List.{List, [], _∷_, _++_}
+use mathlib.Core.List.{List, _++_}
 use mathlib.Core.Logic.{_⊎_, inl, inr}
-use Prim.Native.Nat.{ℕ, zero, suc, _+_, _-_, _<_, _≤_}
+use Prim.Native.Nat.{ℕ, _+_, _-_, _<_, _≤_}
 use native.Mathlib.Decide.{decLt}
 use native.Mathlib.Omega.{arith}
 use borrow.Author.Tests.{le-leb, lt-leb, leb-true, eq-eqb, ne-eqb}
-use lib.ListN.{length, take, drop}
-use lib.Seq.{sets, sets-eq, length-sets, take-at, drop-at}
+use lib.ListN.{length, take, drop, take-append-drop}
+use lib.Seq.{sets-eq, length-sets, take-at, drop-at}
 use lib.Dec.{leb, eqb}
-use Rattle.words.specs.Vocab.{choose}
-use Rattle.words.proofs.Facts.{both, and-true, decided, choose-true, choose-false}
+use Rattle.words.proofs.Facts.{both, decided, choose-true, choose-false}
 use Rattle.words.proofs.Laws.{told-not, told-true}
 use Rattle.io.specs.Counts.{Counts}
 use Rattle.rules.specs.Step.{resetOf}
-use Rattle.rules.specs.declared.Answer.{Answer as Judged}
 use Rattle.model.specs.Answered.{answered}
 use Rattle.model.specs.declared.Answer.{Answer}
 use Rattle.trails.specs.Text.{Wrote, room, badLine}
@@ -127,3 +125,10 @@ module _ (o t : List ℕ) {o′ : List ℕ} {r : ℕ} (n : length o ≡ room) (h
 -- the needs of a good first record
 pub first-told : (s : List ℕ) {b : Bool} → b ≡ firstOk s → not b ≡ false → First s
 first-told s e h = first-good s (told-true e h)
+
+-- what `trail` promises leaves one length and one buffer
+pub one-text : (t old o o′ : List ℕ) (r r′ : ℕ) → take r o ≡ t → r ≡ length t → drop r o ≡ drop r old → take r′ o′ ≡ t → r′ ≡ length t → drop r′ o′ ≡ drop r′ old → (r ≡ r′) × (o ≡ o′)
+one-text t old o o′ r r′ a n b c m d =
+    let e : r ≡ r′ = n ∙ sym m in
+    let f : drop r o ≡ drop r′ o′ = b ∙ rw e (sym d) in
+    (e, sym (take-append-drop r o) ∙ rw (a, f, ← c) (take-append-drop r′ o′))

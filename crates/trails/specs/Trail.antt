@@ -1,4 +1,4 @@
--- The trail: from the input's bytes to the whole output.
+-- The trail of document 01: from the bytes of the input to the whole output.
 use mathlib.Core.Bool.{not}
 use mathlib.Core.List.{List, _++_}
 use Prim.Native.Nat.{ℕ, zero, suc, _+_}
@@ -16,12 +16,12 @@ use Rattle.trails.specs.Input.{window, recordSize, versionOk, firstOk, f
 abbrev pub lineOf : ℕ → Event → Answer → List ℕ
 lineOf i e a = line i (e .kind) (e .node) (a .number) (a .value)
 
--- where no good record stands: the input ends, or a record is bad
+-- where no good record stands at `at`: "the input ends or a record is bad"
 unfoldable pub closing : List ℕ → ℕ → State → List ℕ
 closing s at c = choose (leb (length s) at) (endLine c) (badLine at)
 
--- "reads one event after another until the input ends or a record is bad": from the record at `at`, whose index is i, in the
--- configuration c. The window has no room for more than n records from there.
+-- "reads one event after another": the text from the record at `at` on, whose event has the index i, in the configuration c;
+-- n is as many records as the window could hold, and more
 unfoldable pub eventsFrom : ℕ → List ℕ → ℕ → ℕ → State → List ℕ
 eventsFrom zero s at i c = closing s at c
 eventsFrom (suc n) s at i c =
@@ -30,11 +30,11 @@ eventsFrom (suc n) s at i c =
     ++ eventsFrom n s (at + recordSize) (i + 1) (onwardOf c (eventOf (recordAt s at)) .state))
     (closing s at c)
 
--- reset, by what the first record says
+-- reset, as the first record asks for it
 unfoldable pub resetBy : List ℕ → Answer
 resetBy s = resetOf (countOf s) (parentsOf s (countOf s)) (firstValue s)
 
--- "bad tree" is number 1 of reset
+-- a bad tree is reset's number 1
 unfoldable pub startedFrom : List ℕ → Answer → List ℕ
 startedFrom s a = choose (eqb (a .number) 0) (eventsFrom window s (3 + firstLength s) 1 (a .state)) (badLine 1)
 

@@ -5,6 +5,7 @@ ghost use lib.ListN.{length, take, drop};
 ghost use Rattle.io.specs.Counts.{Counts};
 ghost use Rattle.trails.specs.Text.{Wrote, room};
 ghost use Rattle.trails.specs.Trail.{trailOf};
+use input::VERSION;
 use input::first_ok;
 use input::version;
 use run::started;
@@ -14,10 +15,10 @@ mod input;
 mod run;
 mod text;
 
-// The room that the longest text takes, and more.
+// The bytes of the lent buffer: at most 5,041 lines of at most 39 bytes and the last line fit.
 pub const ROOM: usize = 262144;
 
-// Fills the start of the lent buffer with the trail's whole text, and answers its length. What stands after it stays.
+// Fills the start of the lent buffer with the whole text and answers its length. What stands after it stays.
 pub fn trail(input: &[u8], out: &mut [u8; ROOM]) -> usize
     ensures { λ r. ⌜ take r (now (out .exit)) ≡ trailOf (now (input .entry)) ⌝ }
     ensures { λ r. ⌜ r ≡ length (trailOf (now (input .entry))) ⌝ }
@@ -33,11 +34,12 @@ fn length_of(out: &[u8]) -> usize {
     out.len()
 }
 
+// The text, written from the start of the buffer.
 fn written(input: &[u8], out: &mut [u8; ROOM]) -> usize
     ensures { λ r. ⌜ Wrote (now (out .entry)) 0 (trailOf (now (input .entry))) (now (out .exit)) r ⌝ }
     ensures { λ r. ⌜ r ≤ room ⌝ }
 {
-    if version(input) != 1 {
+    if version(input) != VERSION {
         return put_bad(out, 0, 0);
     }
     if !first_ok(input) {

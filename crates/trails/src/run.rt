@@ -1,9 +1,10 @@
-// The events of a trail, from reset to the last line.
+// From reset to the last line: "reads one event after another until the input ends or a record is bad".
 ghost use Prim.Native.Nat.{_≤_};
 ghost use Rattle.trails.specs.Input.{window, reach, First};
 ghost use Rattle.trails.specs.Text.{Wrote, room};
 ghost use Rattle.trails.specs.Trail.{eventsFrom, startedFrom, resetBy};
 use crate::ROOM;
+use crate::input::EVENT;
 use crate::input::RECORD;
 use crate::input::event;
 use crate::input::number;
@@ -15,7 +16,7 @@ use crate::text::put_line;
 use model::Config;
 use rules::Answer;
 
-// Reads one event after another from `first` on.
+// The text of the events from the offset `first` on. The loop breaks with the offset of a bad record, or of the input's end.
 fn events(input: &[u8], out: &mut [u8; ROOM], start: Config, first: usize) -> usize
     requires { ⌜ 12 ≤ first ⌝ }
     requires { ⌜ first ≤ reach (now input) ⌝ }
@@ -43,7 +44,7 @@ fn events(input: &[u8], out: &mut [u8; ROOM], start: Config, first: usize) -> us
             record[k] = input[at + k];
             k = k + 1;
         }
-        if number(&record, 0, 2) != 11 {
+        if number(&record, 0, 2) != EVENT {
             break 'events at;
         }
         let ev = event(&record);
@@ -60,7 +61,7 @@ fn events(input: &[u8], out: &mut [u8; ROOM], start: Config, first: usize) -> us
     put_bad(out, p, end)
 }
 
-// Resets the configuration as the first record says, and reads the events after it.
+// The text after a good first record: reset as it asks, then the events.
 pub fn started(input: &[u8], out: &mut [u8; ROOM]) -> usize
     requires { ⌜ First (now input) ⌝ }
     ensures { λ r. ⌜ Wrote (now (out .entry)) 0 (startedFrom (now (input .entry)) (resetBy (now (input .entry)))) (now (out .exit)) r ⌝ }

@@ -1,5 +1,4 @@
-// Writing text into the lent buffer. Each function writes from `at` and answers the place after what it wrote.
-ghost use mathlib.Core.Path.{_≡_};
+// What the trail prints, put into the lent buffer. Each function writes from `at` on, and answers the place after its text.
 ghost use mathlib.Core.List.{[], _∷_};
 ghost use Prim.Native.Nat.{_+_, _≤_, _<_};
 ghost use lib.ListN.{length};
@@ -9,6 +8,7 @@ use model::Config;
 use rules::Event;
 use rules::codes::Name;
 
+// One byte.
 fn put_byte(out: &mut [u8; ROOM], at: usize, b: u8) -> usize
     requires { ⌜ at < room ⌝ }
     ensures { λ r. ⌜ Wrote (now (out .entry)) at (b ∷ []) (now (out .exit)) r ⌝ }
@@ -17,6 +17,7 @@ fn put_byte(out: &mut [u8; ROOM], at: usize, b: u8) -> usize
     at + 1
 }
 
+// The bytes of a text.
 fn put_text(out: &mut [u8; ROOM], at: usize, text: &[u8]) -> usize
     requires { ⌜ at + length (now text) ≤ room ⌝ }
     ensures { λ r. ⌜ Wrote (now (out .entry)) at (now (text .entry)) (now (out .exit)) r ⌝ }
@@ -28,6 +29,7 @@ fn put_text(out: &mut [u8; ROOM], at: usize, text: &[u8]) -> usize
     at + n
 }
 
+// A number in decimal, and the byte after it.
 fn put_number(out: &mut [u8; ROOM], at: usize, n: u64, after: u8) -> usize
     requires { ⌜ at + 21 ≤ room ⌝ }
     ensures { λ r. ⌜ Wrote (now (out .entry)) at (field n after) (now (out .exit)) r ⌝ }
@@ -39,6 +41,7 @@ fn put_number(out: &mut [u8; ROOM], at: usize, n: u64, after: u8) -> usize
     put_byte(out, p, after)
 }
 
+// The line of an event. The bounds are those of numbers that a trail prints: an index has at most five digits.
 pub fn put_line(
     out: &mut [u8; ROOM],
     at: usize,
@@ -59,6 +62,7 @@ pub fn put_line(
     put_number(out, s, value, b'\n')
 }
 
+// The name of a node, after a space.
 fn put_name(out: &mut [u8; ROOM], at: usize, name: u8) -> usize
     requires { ⌜ at + 3 ≤ room ⌝ }
     ensures { λ r. ⌜ Wrote (now (out .entry)) at (nameText name) (now (out .exit)) r ⌝ }
@@ -74,6 +78,7 @@ fn put_name(out: &mut [u8; ROOM], at: usize, name: u8) -> usize
     }
 }
 
+// The names of all nodes.
 fn put_names(out: &mut [u8; ROOM], at: usize, c: Config) -> usize
     requires { ⌜ at + 768 ≤ room ⌝ }
     ensures { λ r. ⌜ Wrote (now (out .entry)) at (names (c .state) (c .state .count)) (now (out .exit)) r ⌝ }
@@ -87,6 +92,7 @@ fn put_names(out: &mut [u8; ROOM], at: usize, c: Config) -> usize
     p
 }
 
+// "`end` and the node names in order"
 pub fn put_end(out: &mut [u8; ROOM], at: usize, c: Config) -> usize
     requires { ⌜ at + 800 ≤ room ⌝ }
     ensures { λ r. ⌜ Wrote (now (out .entry)) at (endLine (c .state)) (now (out .exit)) r ⌝ }
@@ -97,6 +103,7 @@ pub fn put_end(out: &mut [u8; ROOM], at: usize, c: Config) -> usize
     put_byte(out, q, b'\n')
 }
 
+// "`bad P`"
 pub fn put_bad(out: &mut [u8; ROOM], at: usize, offset: usize) -> usize
     requires { ⌜ at + 25 ≤ room ⌝ }
     ensures { λ r. ⌜ Wrote (now (out .entry)) at (badLine offset) (now (out .exit)) r ⌝ }

@@ -1,3 +1,4 @@
+-- `trail` meets its contract: a text from the start of the buffer, and what stands after it.
 use mathlib.Core.Path.{_≡_}
 use lib.ListN.{length}
 use Rattle.trails.specs.Text.{room}

@@ -1,3 +1,4 @@
+-- `written` meets its contract, test by test.
 use borrow.Author.Needs.{needs}
 use Rattle.trails.proofs.Starting.{wrong-version, no-first, with-first, first-told}
 use Rattle.trails.proofs.written.Statement.{statement}
@@ -11,6 +12,8 @@ written-spec =
     (λ c. (wrong-version _ (c .before .before .before .version .ensures) (c .before .before .if1 .taken) (c .put-bad .ensures .0), search needs))
     (λ c κs. search needs)
     (λ c κs. search needs)
-    (λ c. (no-first _ (c .before .before .before .before .before .version .ensures) (c .before .before .before .before .if1 .left) (c .before .before .before .first-ok .ensures) (c .before .before .if2 .taken) (c .put-bad2 .ensures .0), search needs))
+    (λ c. let first = c .before .before .before in
+    (no-first _ (first .before .before .version .ensures) (first .before .if1 .left) (first .first-ok .ensures) (c .before .before .if2 .taken) (c .put-bad2 .ensures .0), search needs))
     (λ c κs. first-told _ (c .before .before .first-ok .ensures) (c .before .if2 .left))
-    (λ c. (with-first _ (c .before .before .before .before .before .version .ensures) (c .before .before .before .before .if1 .left) (c .before .before .before .first-ok .ensures) (c .before .before .if2 .left) (c .started .ensures .0), search needs)))
+    (λ c. let first = c .before .before .before in
+    (with-first _ (first .before .before .version .ensures) (first .before .if1 .left) (first .first-ok .ensures) (c .before .before .if2 .left) (c .started .ensures .0), search needs)))

@@ -1,3 +1,4 @@
+-- `event` meets its contract: the value is what `number` answers.
 use borrow.Author.Needs.{needs}
 use Rattle.trails.specs.Input.{eventOf}
 use Rattle.trails.proofs.input.event.Statement.{statement}

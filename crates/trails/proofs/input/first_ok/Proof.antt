@@ -1,3 +1,4 @@
+-- `first_ok` meets its contract: each test is a clause of the definition.
 use borrow.Author.Needs.{needs}
 use Rattle.trails.proofs.Starting.{firsts}
 use Rattle.trails.proofs.input.first_ok.Statement.{statement}

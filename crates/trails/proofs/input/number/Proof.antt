@@ -1,6 +1,6 @@
+-- `number` meets its contract: k bytes hold a number below 256 ^ k.
 use Prim.Native.Nat.{_≤_, _<_, _^_, _-_}
-use mathlib.Core.Path.{_≡_, refl, _∙_, sym, ap}
-use native.Mathlib.Omega.{arith}
+use mathlib.Core.Path.{_≡_}
 use borrow.Author.Needs.{needs}
 use Rattle.trails.specs.Input.{number}
 use Rattle.trails.proofs.Reading.{numbers}

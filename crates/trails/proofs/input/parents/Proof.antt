@@ -1,8 +1,8 @@
-use Prim.Native.Nat.{_≤_, _<_, _-_, _+_}
-use mathlib.Core.Path.{_≡_, refl, _∙_, sym, ap}
-use native.Mathlib.Omega.{arith}
+-- `parents` meets its contract: the row is filled as far as k.
+use Prim.Native.Nat.{_≤_, _-_, _+_}
+use mathlib.Core.Path.{_≡_}
 use borrow.Author.Needs.{needs}
-use lib.ListN.{length, replicate}
+use lib.ListN.{replicate}
 use Rattle.words.specs.Vocab.{fill}
 use Rattle.words.proofs.Laws.{loops}
 use Rattle.rules.specs.Codes.{nodes}

@@ -1,3 +1,4 @@
+-- `version` meets its contract: past the end the definition has 0.
 use borrow.Author.Needs.{needs}
 use lib.ListN.{List·getD-eq-default}
 use mathlib.Core.Path.{_≡_, sym}

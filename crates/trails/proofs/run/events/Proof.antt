@@ -1,9 +1,8 @@
 -- `events` meets its contract. The outer loop: what was written and what is left make the whole text; a record has 13 bytes
 -- and a line at most 39. The inner loop: the first k bytes of the record are copied.
-use Prim.Native.Nat.{ℕ, _≤_, _<_, _+_, _*_, _-_}
-use mathlib.Core.Path.{_≡_, refl, _∙_, sym, ap}
+use Prim.Native.Nat.{_≤_, _+_, _*_, _-_}
+use mathlib.Core.Path.{_≡_}
 use mathlib.Core.Bool.{false}
-use mathlib.Core.List.{List}
 use mathlib.Core.Logic.{⊎-elim}
 use native.Mathlib.Omega.{arith}
 use borrow.Author.Needs.{needs}
@@ -55,11 +54,13 @@ events-spec =
     (λ c. search needs)
     (λ c. search needs)
     (λ c. search needs)
-    (λ c. let r = c .before .before .before .«record» in (
+    (λ c. let row = c .before .before .before in
+    let r = row .«record» in
+    let turn = row .before .before in (
       search needs,
       search needs,
       search needs,
-      byte-more (r .«record») (c .before .before .before .before .before .before .before .before .args .input .now) (c .before .before .before .before .before .events .at) (r .k) (r .inv .1) (search needs) (search needs) (r .inv .3),
+      byte-more (r .«record») (turn .before .before .before .args .input .now) (turn .events .at) (r .k) (r .inv .1) (search needs) (search needs) (r .inv .3),
     ))
     (λ c. search needs)
     (λ c κs. search needs)
@@ -69,18 +70,27 @@ events-spec =
     (λ c. search needs)
     (λ c. search needs)
     (λ c. search needs)
-    (λ c. let r = c .before .before .before .before .before .before .before .before .before .before .«record» in
-    let s = c .before .before .before .before .before .before .before .before .before .before .before .before .before .before .before .args .input .now in
-    let at = c .before .before .before .before .before .before .before .before .before .before .before .before .events .at in
-    let q = copied s (r .«record») at (r .k) (r .inv .1) (c .before .before .before .before .before .before .before .before .before .record-test .taken) (r .inv .0) (r .inv .3) in
-    let ok = whole s at q (c .before .before .before .before .before .before .before .number .ensures) (c .before .before .before .before .before .before .if3 .left) (search needs) in (
+    (λ c. let answered = c .before .before .before in
+    let told = answered .before in
+    let led = told .before .before .before in
+    let row = led .before .before .before in
+    let r = row .«record» in
+    let turn = row .before .before in
+    let s = turn .before .before .before .args .input .now in
+    let at = turn .events .at in
+    let q = copied s (r .«record») at (r .k) (r .inv .1) (led .before .before .record-test .taken) (r .inv .0) (r .inv .3) in
+    let ok = whole s at q (led .number .ensures) (told .before .before .if3 .left) (search needs) in (
       search needs,
       search needs,
       search needs,
       search needs,
-      turned s at _ _ (c .before .before .before .before .before .before .before .before .before .before .before .before .events .inv .4) (search needs) q ok (c .before .before .before .before .event .ensures) (c .before .before .before .onward .ensures) (c .before .put-line .ensures .0),
+      turned s at _ _ (turn .events .inv .4) (search needs) q ok (told .event .ensures) (answered .onward .ensures) (c .before .put-line .ensures .0),
     ))
     (λ c κs. search needs)
-    (λ c. let j = c .before .before .before in let g = stopped j in (ends _ _ _ _ _ (j .before .events .inv .4) (g .0) (g .1) (search needs) (c .put-end .ensures .0), search needs))
+    (λ c. let j = c .before .before .before in
+    let g = stopped j in
+    (ends _ _ _ _ _ (j .before .events .inv .4) (g .0) (g .1) (search needs) (c .put-end .ensures .0), search needs))
     (λ c κs. search needs)
-    (λ c. let j = c .before .before .before in let g = stopped j in (breaks _ _ _ _ _ (j .before .events .inv .4) (g .0) (g .1) (search needs) (c .put-bad .ensures .0), search needs)))
+    (λ c. let j = c .before .before .before in
+    let g = stopped j in
+    (breaks _ _ _ _ _ (j .before .events .inv .4) (g .0) (g .1) (search needs) (c .put-bad .ensures .0), search needs)))

@@ -1,3 +1,4 @@
+-- `put_bad` meets its contract: two texts one after the other.
 use borrow.Author.Needs.{needs}
 use Rattle.trails.specs.Text.{badLine}
 use Rattle.trails.proofs.Writing.{wrote-then}

@@ -1,3 +1,4 @@
+-- `put_end` meets its contract: three texts one after the other.
 use borrow.Author.Needs.{needs}
 use Rattle.trails.specs.Text.{endLine}
 use Rattle.trails.proofs.Writing.{wrote-then}

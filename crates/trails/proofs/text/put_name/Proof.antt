@@ -1,3 +1,4 @@
+-- `put_name` meets its contract, arm by arm.
 use borrow.Author.Needs.{needs}
 use native.Mathlib.Omega.{arith}
 use Rattle.trails.specs.Text.{nameText}

@@ -1,5 +1,5 @@
+-- `put_names` meets its contract: the names of the first x nodes are written, three bytes each at most.
 use Prim.Native.Nat.{_≤_, _+_, _*_, _-_}
-use native.Mathlib.Omega.{arith}
 use borrow.Author.Needs.{needs}
 use Rattle.trails.specs.Text.{Wrote, names}
 use Rattle.trails.proofs.Lines.{naming}

@@ -1,0 +1,55 @@
+-- Document 01's "Whole case", and inputs that are bad at each kind of place, computed from the definition.
+use mathlib.Core.Path.{_≡_, refl}
+use mathlib.Core.List.{List, [], _∷_, _++_}
+use Prim.Native.Nat.{ℕ}
+use lib.ListN.{take, drop}
+use Rattle.words.specs.Vocab.{all, any, fill, choose}
+use Rattle.rules.specs.Tree.{treeOk, childIn, leafIn}
+use Rattle.rules.specs.Names.{someIn, noneIn, othersNoneIn, memberIn, nameOf}
+use Rattle.rules.specs.Events.{otherOk, eventOk, placeRule}
+use Rattle.rules.specs.Settle.{nextPhase, phaseAfter}
+use Rattle.rules.specs.Local.{loadNeeds, storeNeeds, storeTo, missTo, loadMissNeeds, storeMissNeeds, evictNeeds, evictTo}
+use Rattle.rules.specs.Acquire.{asksFrom, sendAcquireNeeds, acquireFor, sendAcquireTo, acquireFits, takeAcquireNeeds, purposeFor, probedFor, takeAcquireTo}
+use Rattle.rules.specs.Grant.{grantFits, takeGrantNeeds, grantedRights, installed, takeGrantTo, sendGrantAckNeeds, confirmed, sendGrantAckTo, mayGrant, sendGrantNeeds, grantFor, entryFor, grantValue, sendGrantTo, takeGrantAckNeeds, takeGrantAckTo}
+use Rattle.rules.specs.Step.{resetOf, startOf, treeParents, rowOf, judged, onwardOf}
+use Rattle.trails.specs.Text.{bytes, spelled, field, line, nameText, names, endLine, badLine}
+use Rattle.trails.specs.Input.{number, firstOk, parentsOf, recordOk, eventOf}
+use Rattle.trails.specs.Trail.{closing, eventsFrom, resetBy, startedFrom, trailOf}
+
+-- a number below 256 in 8 bytes
+abbrev word : ℕ → List ℕ
+word v = 0 ∷ 0 ∷ 0 ∷ 0 ∷ 0 ∷ 0 ∷ 0 ∷ v ∷ []
+
+abbrev event : ℕ → ℕ → ℕ → ℕ → List ℕ
+event k x o v = 0 ∷ 11 ∷ k ∷ x ∷ o ∷ word v
+
+-- "version 1, first value 7, one parent 0"
+abbrev start : List ℕ
+start = 1 ∷ 0 ∷ 9 ∷ word 7 ++ (0 ∷ [])
+
+-- "events (kind node other value) 4 1 0 0; 6 1 0 0; 7 0 1 0; 14 0 1 0; 12 1 0 0; 13 1 0 0; 15 0 0 0; 2 1 0 9; 1 1 0 0; 3 1 0 0"
+abbrev wholeCase : List ℕ
+wholeCase =
+    start ++ event 4 1 0 0 ++ event 6 1 0 0 ++ event 7 0 1 0 ++ event 14 0 1 0 ++ event 12 1 0 0 ++ event 13 1 0 0 ++ event 15 0 0 0 ++ event 2 1 0 9 ++ event 1 1 0 0 ++ event 3 1 0 0
+
+pub whole-case : trailOf wholeCase
+    ≡ bytes "1 4 1 0 0\n2 6 1 0 0\n3 7 0 0 0\n4 14 0 0 0\n5 12 1 0 0\n6 13 1 0 0\n7 15 0 0 0\n8 2 1 0 0\n9 1 1 0 9\n10 3 1 5 0\nend T TT\n"
+unfolding all any fill choose treeOk childIn leafIn someIn noneIn othersNoneIn memberIn nameOf otherOk eventOk placeRule nextPhase phaseAfter loadNeeds storeNeeds storeTo missTo loadMissNeeds storeMissNeeds evictNeeds evictTo asksFrom sendAcquireNeeds acquireFor sendAcquireTo acquireFits takeAcquireNeeds purposeFor probedFor takeAcquireTo grantFits takeGrantNeeds grantedRights installed takeGrantTo sendGrantAckNeeds confirmed sendGrantAckTo mayGrant sendGrantNeeds grantFor entryFor grantValue sendGrantTo takeGrantAckNeeds takeGrantAckTo resetOf startOf treeParents rowOf judged onwardOf spelled field line nameText names endLine badLine number firstOk parentsOf recordOk eventOf closing eventsFrom resetBy startedFrom trailOf
+whole-case = refl
+
+-- no event; no version, a wrong one; no first record, one that is too short, one with a bad tree
+pub ends : (trailOf start ≡ bytes "end TT N\n")
+    × (trailOf [] ≡ bytes "bad 0\n")
+    × (trailOf (2 ∷ drop 1 start) ≡ bytes "bad 0\n")
+    × (trailOf (take 1 start) ≡ bytes "bad 1\n")
+    × (trailOf (take 11 start) ≡ bytes "bad 1\n")
+    × (trailOf (take 11 start ++ (1 ∷ [])) ≡ bytes "bad 1\n")
+unfolding all any fill choose treeOk childIn leafIn someIn noneIn othersNoneIn memberIn nameOf otherOk eventOk placeRule nextPhase phaseAfter loadNeeds storeNeeds storeTo missTo loadMissNeeds storeMissNeeds evictNeeds evictTo asksFrom sendAcquireNeeds acquireFor sendAcquireTo acquireFits takeAcquireNeeds purposeFor probedFor takeAcquireTo grantFits takeGrantNeeds grantedRights installed takeGrantTo sendGrantAckNeeds confirmed sendGrantAckTo mayGrant sendGrantNeeds grantFor entryFor grantValue sendGrantTo takeGrantAckNeeds takeGrantAckTo resetOf startOf treeParents rowOf judged onwardOf spelled field line nameText names endLine badLine number firstOk parentsOf recordOk eventOf closing eventsFrom resetBy startedFrom trailOf
+ends = (refl, refl, refl, refl, refl, refl)
+
+-- after an event: cut in the middle of a length, cut short, a wrong length
+pub breaks : (trailOf (start ++ event 1 1 0 0 ++ (0 ∷ [])) ≡ bytes "1 1 1 5 0\nbad 25\n")
+    × (trailOf (start ++ event 1 1 0 0 ++ take 12 (event 1 1 0 0)) ≡ bytes "1 1 1 5 0\nbad 25\n")
+    × (trailOf (start ++ event 1 1 0 0 ++ (0 ∷ 12 ∷ 1 ∷ 1 ∷ 0 ∷ word 0 ++ (0 ∷ []))) ≡ bytes "1 1 1 5 0\nbad 25\n")
+unfolding all any fill choose treeOk childIn leafIn someIn noneIn othersNoneIn memberIn nameOf otherOk eventOk placeRule nextPhase phaseAfter loadNeeds storeNeeds storeTo missTo loadMissNeeds storeMissNeeds evictNeeds evictTo asksFrom sendAcquireNeeds acquireFor sendAcquireTo acquireFits takeAcquireNeeds purposeFor probedFor takeAcquireTo grantFits takeGrantNeeds grantedRights installed takeGrantTo sendGrantAckNeeds confirmed sendGrantAckTo mayGrant sendGrantNeeds grantFor entryFor grantValue sendGrantTo takeGrantAckNeeds takeGrantAckTo resetOf startOf treeParents rowOf judged onwardOf spelled field line nameText names endLine badLine number firstOk parentsOf recordOk eventOf closing eventsFrom resetBy startedFrom trailOf
+breaks = (refl, refl, refl)
