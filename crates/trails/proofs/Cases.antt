@@ -32,24 +32,29 @@ abbrev wholeCase : List ℕ
 wholeCase =
     start ++ event 4 1 0 0 ++ event 6 1 0 0 ++ event 7 0 1 0 ++ event 14 0 1 0 ++ event 12 1 0 0 ++ event 13 1 0 0 ++ event 15 0 0 0 ++ event 2 1 0 9 ++ event 1 1 0 0 ++ event 3 1 0 0
 
-pub whole-case : trailOf wholeCase
-    ≡ bytes "1 4 1 0 0\n2 6 1 0 0\n3 7 0 0 0\n4 14 0 0 0\n5 12 1 0 0\n6 13 1 0 0\n7 15 0 0 0\n8 2 1 0 0\n9 1 1 0 9\n10 3 1 5 0\nend T TT\n"
-unfolding all any fill choose treeOk childIn leafIn someIn noneIn othersNoneIn memberIn nameOf otherOk eventOk placeRule nextPhase phaseAfter loadNeeds storeNeeds storeTo missTo loadMissNeeds storeMissNeeds evictNeeds evictTo asksFrom sendAcquireNeeds acquireFor sendAcquireTo acquireFits takeAcquireNeeds purposeFor probedFor takeAcquireTo grantFits takeGrantNeeds grantedRights installed takeGrantTo sendGrantAckNeeds confirmed sendGrantAckTo mayGrant sendGrantNeeds grantFor entryFor grantValue sendGrantTo takeGrantAckNeeds takeGrantAckTo resetOf startOf treeParents rowOf judged onwardOf spelled field line nameText names endLine badLine number firstOk parentsOf recordOk eventOf closing eventsFrom resetBy startedFrom trailOf
-whole-case = refl
+-- what document 01 prints there
+abbrev printed : List ℕ
+printed =
+    bytes "1 4 1 0 0\n2 6 1 0 0\n3 7 0 0 0\n4 14 0 0 0\n5 12 1 0 0\n6 13 1 0 0\n7 15 0 0 0\n8 2 1 0 0\n9 1 1 0 9\n10 3 1 5 0\nend T TT\n"
 
--- no event; no version, a wrong one; no first record, one that is too short, one with a bad tree
-pub ends : (trailOf start ≡ bytes "end TT N\n")
+-- an event that is refused, and then a record that is bad
+abbrev broken : List ℕ → List ℕ
+broken r = start ++ event 1 1 0 0 ++ r
+
+abbrev breaks : List ℕ
+breaks = bytes "1 1 1 5 0\nbad 25\n"
+
+-- The whole case; no event; no version, a wrong one; no first record, one that is cut short, one with a bad tree; a record that
+-- is cut in the middle of its length, one that is cut short, one of another length.
+pub cases : (trailOf wholeCase ≡ printed)
+    × (trailOf start ≡ bytes "end TT N\n")
     × (trailOf [] ≡ bytes "bad 0\n")
     × (trailOf (2 ∷ drop 1 start) ≡ bytes "bad 0\n")
     × (trailOf (take 1 start) ≡ bytes "bad 1\n")
     × (trailOf (take 11 start) ≡ bytes "bad 1\n")
     × (trailOf (take 11 start ++ (1 ∷ [])) ≡ bytes "bad 1\n")
+    × (trailOf (broken (0 ∷ [])) ≡ breaks)
+    × (trailOf (broken (take 12 (event 1 1 0 0))) ≡ breaks)
+    × (trailOf (broken (0 ∷ 12 ∷ 1 ∷ 1 ∷ 0 ∷ word 0 ++ (0 ∷ []))) ≡ breaks)
 unfolding all any fill choose treeOk childIn leafIn someIn noneIn othersNoneIn memberIn nameOf otherOk eventOk placeRule nextPhase phaseAfter loadNeeds storeNeeds storeTo missTo loadMissNeeds storeMissNeeds evictNeeds evictTo asksFrom sendAcquireNeeds acquireFor sendAcquireTo acquireFits takeAcquireNeeds purposeFor probedFor takeAcquireTo grantFits takeGrantNeeds grantedRights installed takeGrantTo sendGrantAckNeeds confirmed sendGrantAckTo mayGrant sendGrantNeeds grantFor entryFor grantValue sendGrantTo takeGrantAckNeeds takeGrantAckTo resetOf startOf treeParents rowOf judged onwardOf spelled field line nameText names endLine badLine number firstOk parentsOf recordOk eventOf closing eventsFrom resetBy startedFrom trailOf
-ends = (refl, refl, refl, refl, refl, refl)
-
--- after an event: cut in the middle of a length, cut short, a wrong length
-pub breaks : (trailOf (start ++ event 1 1 0 0 ++ (0 ∷ [])) ≡ bytes "1 1 1 5 0\nbad 25\n")
-    × (trailOf (start ++ event 1 1 0 0 ++ take 12 (event 1 1 0 0)) ≡ bytes "1 1 1 5 0\nbad 25\n")
-    × (trailOf (start ++ event 1 1 0 0 ++ (0 ∷ 12 ∷ 1 ∷ 1 ∷ 0 ∷ word 0 ++ (0 ∷ []))) ≡ bytes "1 1 1 5 0\nbad 25\n")
-unfolding all any fill choose treeOk childIn leafIn someIn noneIn othersNoneIn memberIn nameOf otherOk eventOk placeRule nextPhase phaseAfter loadNeeds storeNeeds storeTo missTo loadMissNeeds storeMissNeeds evictNeeds evictTo asksFrom sendAcquireNeeds acquireFor sendAcquireTo acquireFits takeAcquireNeeds purposeFor probedFor takeAcquireTo grantFits takeGrantNeeds grantedRights installed takeGrantTo sendGrantAckNeeds confirmed sendGrantAckTo mayGrant sendGrantNeeds grantFor entryFor grantValue sendGrantTo takeGrantAckNeeds takeGrantAckTo resetOf startOf treeParents rowOf judged onwardOf spelled field line nameText names endLine badLine number firstOk parentsOf recordOk eventOf closing eventsFrom resetBy startedFrom trailOf
-breaks = (refl, refl, refl)
+cases = (refl, refl, refl, refl, refl, refl, refl, refl, refl, refl)

@@ -16,7 +16,7 @@ abbrev pub bytes : String → List ℕ
 bytes [] = none
 bytes (c ∷ s) = code c then bytes s
 
--- the last k digits of n at most, with no zero in front
+-- the digits of n with no zero in front, where k of them are enough
 unfoldable pub spelled : ℕ → ℕ → List ℕ
 spelled zero n = none
 spelled (suc k) n = choose (ltb n 10) ((code "0" + n) then none) (spelled k (n / 10) ++ ((code "0" + n % 10) then none))
