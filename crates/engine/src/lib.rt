@@ -1,8 +1,10 @@
 // The step of document 01, computed: "the first number that applies is given and none otherwise". Every public function is
 // total and promises its definition of crate rules.
 ghost use mathlib.Core.Path.{_≡_};
-ghost use Rattle.rules.specs.Names.{named};
+ghost use Rattle.rules.specs.Names.{nameIn, named};
 ghost use Rattle.rules.specs.Step.{resetOf, stepOf, onwardOf};
+use events::event_ok;
+use events::place_ok;
 use judge::judged;
 use name::node_name;
 use reset::blank_state;
@@ -13,6 +15,7 @@ use rules::State;
 use rules::codes::Name;
 use scan::configuration_ok;
 use tree::tree_ok;
+use turn::turn;
 
 mod acquire;
 mod answers;
@@ -83,17 +86,39 @@ pub fn onward(s: State, ev: Event) -> Answer
             state: s,
         };
     }
-    judged(s, ev)
+    if !event_ok(s.count, &s.parents, ev) {
+        return Answer {
+            number: Answer::BAD_EVENT,
+            value: 0,
+            state: s,
+        };
+    }
+    if !place_ok(s.count, &s.parents, ev) {
+        return Answer {
+            number: Answer::WRONG_PLACE,
+            value: 0,
+            state: s,
+        };
+    }
+    turn(s, ev)
 }
 
 // The name of node x; beyond the node limit it is N, as of a node with no rights.
 pub fn named(s: State, x: u8) -> u8
     ensures { λ r. ⌜ r ≡ named s x ⌝ }
 {
+    name_in(&s.rights, &s.entries, x)
+}
+
+// The same on the lent rights and entries: a configuration is not copied to name its nodes.
+pub fn name_in<'a>(rights: &'a [u8; State::NODES], entries: &'a [u8; State::CELLS], x: u8) -> u8
+    ensures { λ r. ⌜ r ≡ nameIn (now (rights .entry)) (now (entries .entry)) x ⌝ }
+{
     let i = x as usize;
+    // Lent as a slice, the array shows the proof how long it is.
+    let r = tree::at(rights, i);
     if i < State::NODES {
-        let r = s.rights[i];
-        node_name(&s.entries, r, i)
+        node_name(entries, r, i)
     } else {
         Name::N
     }

@@ -6,7 +6,7 @@ use lib.ListN.{getD}
 use lib.Dec.{eqb}
 use Rattle.words.specs.Vocab.{all, any, choose}
 use Rattle.rules.specs.Codes.{nodes, rightsB, tip, none, branch, trunk, nameN, nameB, nameT, nameTB, nameTT}
-use Rattle.rules.specs.Cells.{cell, rights}
+use Rattle.rules.specs.Cells.{cell}
 use Rattle.rules.specs.declared.State.{State}
 
 -- some entry of the row of x is e
@@ -43,8 +43,12 @@ unfoldable pub nameOf : ℕ → Bool → Bool → ℕ
 nameOf r trunks branches =
     choose (eqb r tip) (choose trunks nameT (choose branches nameTB nameTT)) (choose (eqb r rightsB) nameB nameN)
 
+-- the name of x by the rights and the entries of all nodes
+abbrev pub nameIn : List ℕ → List ℕ → ℕ → ℕ
+nameIn rs es x = nameOf (getD rs x 0) (someIn es x trunk) (someIn es x branch)
+
 abbrev pub named : State → ℕ → ℕ
-named s x = nameOf (rights s x) (someEntry s x trunk) (someEntry s x branch)
+named s x = nameIn (s .rights) (s .entries) x
 
 -- "Readable means named B, TT or TB."
 abbrev pub readableName : ℕ → Bool

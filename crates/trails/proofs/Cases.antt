@@ -12,7 +12,7 @@ use Rattle.rules.specs.Local.{loadNeeds, storeNeeds, storeTo, missTo, loadMissN
 use Rattle.rules.specs.Acquire.{asksFrom, sendAcquireNeeds, acquireFor, sendAcquireTo, acquireFits, takeAcquireNeeds, purposeFor, probedFor, takeAcquireTo}
 use Rattle.rules.specs.Grant.{grantFits, takeGrantNeeds, grantedRights, installed, takeGrantTo, sendGrantAckNeeds, confirmed, sendGrantAckTo, mayGrant, sendGrantNeeds, grantFor, entryFor, grantValue, sendGrantTo, takeGrantAckNeeds, takeGrantAckTo}
 use Rattle.rules.specs.Step.{resetOf, startOf, treeParents, rowOf, judged, onwardOf}
-use Rattle.trails.specs.Text.{bytes, spelled, field, line, nameText, names, endLine, badLine}
+use Rattle.trails.specs.Text.{bytes, spelled, field, line, nameText, names, endIn, badLine}
 use Rattle.trails.specs.Input.{number, firstOk, parentsOf, recordOk, eventOf}
 use Rattle.trails.specs.Trail.{closing, eventsFrom, resetBy, startedFrom, trailOf}
 
@@ -56,5 +56,5 @@ pub cases : (trailOf wholeCase ≡ printed)
     × (trailOf (broken (0 ∷ [])) ≡ breaks)
     × (trailOf (broken (take 12 (event 1 1 0 0))) ≡ breaks)
     × (trailOf (broken (0 ∷ 12 ∷ 1 ∷ 1 ∷ 0 ∷ word 0 ++ (0 ∷ []))) ≡ breaks)
-unfolding all any fill choose treeOk childIn leafIn someIn noneIn othersNoneIn memberIn nameOf otherOk eventOk placeRule nextPhase phaseAfter loadNeeds storeNeeds storeTo missTo loadMissNeeds storeMissNeeds evictNeeds evictTo asksFrom sendAcquireNeeds acquireFor sendAcquireTo acquireFits takeAcquireNeeds purposeFor probedFor takeAcquireTo grantFits takeGrantNeeds grantedRights installed takeGrantTo sendGrantAckNeeds confirmed sendGrantAckTo mayGrant sendGrantNeeds grantFor entryFor grantValue sendGrantTo takeGrantAckNeeds takeGrantAckTo resetOf startOf treeParents rowOf judged onwardOf spelled field line nameText names endLine badLine number firstOk parentsOf recordOk eventOf closing eventsFrom resetBy startedFrom trailOf
+unfolding all any fill choose treeOk childIn leafIn someIn noneIn othersNoneIn memberIn nameOf otherOk eventOk placeRule nextPhase phaseAfter loadNeeds storeNeeds storeTo missTo loadMissNeeds storeMissNeeds evictNeeds evictTo asksFrom sendAcquireNeeds acquireFor sendAcquireTo acquireFits takeAcquireNeeds purposeFor probedFor takeAcquireTo grantFits takeGrantNeeds grantedRights installed takeGrantTo sendGrantAckNeeds confirmed sendGrantAckTo mayGrant sendGrantNeeds grantFor entryFor grantValue sendGrantTo takeGrantAckNeeds takeGrantAckTo resetOf startOf treeParents rowOf judged onwardOf spelled field line nameText names endIn badLine number firstOk parentsOf recordOk eventOf closing eventsFrom resetBy startedFrom trailOf
 cases = (refl, refl, refl, refl, refl, refl, refl, refl, refl, refl)

@@ -5,7 +5,7 @@ use Prim.Native.Nat.{ℕ, _+_, _^_, _<_, _≤_}
 use native.Mathlib.Numerals.{add-one}
 use native.Mathlib.Omega.{arith}
 use lib.ListN.{length, length-append, List·getD-eq-default}
-use Rattle.rules.specs.Names.{named}
+use Rattle.rules.specs.Names.{nameIn}
 use Rattle.rules.specs.declared.State.{State}
 use Rattle.trails.specs.Text.{Wrote, space, newline, decimal, field, line, nameText, nameTexts, names}
 use Rattle.trails.proofs.Writing.{wrote-then, wrote-none}
@@ -36,16 +36,16 @@ module _ {a b c : List ℕ} {at p r : ℕ} where
   field-wrote n after e f g = rw e at (wrote-then f g)
 
   -- a name more
-  pub names-more : (s : State) (x : ℕ) {v : ℕ} → Wrote a at (names s x) b p → v ≡ named s x → Wrote b p (nameText v) c r → Wrote a at (names s (x + 1)) c r
+  pub names-more : (rs es : List ℕ) (x : ℕ) {v : ℕ} → Wrote a at (names rs es x) b p → v ≡ nameIn rs es x → Wrote b p (nameText v) c r → Wrote a at (names rs es (x + 1)) c r
   unfolding names
-  names-more s x f e g = rw (add-one, ← e) (wrote-then f g)
+  names-more rs es x f e g = rw (add-one, ← e) (wrote-then f g)
 
-pub names-none : (s : State) (a : List ℕ) (at : ℕ) → Wrote a at (names s 0) a at
+pub names-none : (rs es a : List ℕ) (at : ℕ) → Wrote a at (names rs es 0) a at
 unfolding names
-names-none s a at = wrote-none a at
+names-none rs es a at = wrote-none a at
 
-pub names-all : (s : State) (x n : ℕ) {a b : List ℕ} {at p : ℕ} → x ≤ n → n ≤ x → Wrote a at (names s x) b p → Wrote a at (names s n) b p
-names-all s x n l m f = let e : n ≡ x = omega arith in rw e f
+pub names-all : (rs es : List ℕ) (x n : ℕ) {a b : List ℕ} {at p : ℕ} → x ≤ n → n ≤ x → Wrote a at (names rs es x) b p → Wrote a at (names rs es n) b p
+names-all rs es x n l m f = let e : n ≡ x = omega arith in rw e f
 
 pub name-wrote : (k n : ℕ) {a b : List ℕ} {at r : ℕ} → n ≡ k → Wrote a at (nameText k) b r → Wrote a at (nameText n) b r
 name-wrote k n e f = rw e f

@@ -8,7 +8,7 @@ use lib.ListN.{getD, length}
 use lib.Seq.{sets}
 use lib.Dec.{ltb}
 use Rattle.words.specs.Vocab.{choose}
-use Rattle.rules.specs.Names.{named}
+use Rattle.rules.specs.Names.{nameIn}
 use Rattle.rules.specs.declared.State.{State}
 
 -- the bytes of a text in ASCII
@@ -46,14 +46,17 @@ nameTexts = bytes " N" then bytes " B" then bytes " T" then bytes " TB" then byt
 unfoldable pub nameText : ℕ → List ℕ
 nameText n = getD nameTexts n none
 
--- the names of the first n nodes, in order
-unfoldable pub names : State → ℕ → List ℕ
-names s zero = none
-names s (suc n) = names s n ++ nameText (named s n)
+-- the names of the first n nodes, in order, by the rights and the entries of all nodes
+unfoldable pub names : List ℕ → List ℕ → ℕ → List ℕ
+names rs es zero = none
+names rs es (suc n) = names rs es n ++ nameText (nameIn rs es n)
 
 -- "`end` and the node names in order"
-unfoldable pub endLine : State → List ℕ
-endLine s = bytes "end" ++ names s (s .count) ++ bytes "\n"
+unfoldable pub endIn : ℕ → List ℕ → List ℕ → List ℕ
+endIn n rs es = bytes "end" ++ names rs es n ++ bytes "\n"
+
+abbrev pub endLine : State → List ℕ
+endLine s = endIn (s .count) (s .rights) (s .entries)
 
 -- "`bad P`"
 unfoldable pub badLine : ℕ → List ℕ

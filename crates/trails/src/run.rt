@@ -49,14 +49,14 @@ fn events(input: &[u8], out: &mut [u8; ROOM], start: Config, first: usize) -> us
         }
         let ev = event(&record);
         let a = c.onward(ev);
-        p = put_line(out, p, index, ev, a.number, a.value);
         let next = a.config;
         c = next;
+        p = put_line(out, p, index, ev, a.number, a.value);
         index = index + 1;
         at = at + RECORD;
     };
     if end >= input.len() {
-        return put_end(out, p, c);
+        return put_end(out, p, c.state.count, &c.state.rights, &c.state.entries);
     }
     put_bad(out, p, end)
 }

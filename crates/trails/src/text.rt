@@ -2,10 +2,10 @@
 ghost use mathlib.Core.List.{[], _∷_};
 ghost use Prim.Native.Nat.{_+_, _≤_, _<_};
 ghost use lib.ListN.{length};
-ghost use Rattle.trails.specs.Text.{Wrote, room, field, line, nameText, names, endLine, badLine};
+ghost use Rattle.trails.specs.Text.{Wrote, room, field, line, nameText, names, endIn, badLine};
 use crate::ROOM;
-use model::Config;
 use rules::Event;
+use rules::State;
 use rules::codes::Name;
 
 // One byte.
@@ -78,28 +78,39 @@ fn put_name(out: &mut [u8; ROOM], at: usize, name: u8) -> usize
     }
 }
 
-// The names of all nodes.
-fn put_names(out: &mut [u8; ROOM], at: usize, c: Config) -> usize
+// The names of the first n nodes.
+fn put_names<'a>(
+    out: &mut [u8; ROOM],
+    at: usize,
+    n: u8,
+    rights: &'a [u8; State::NODES],
+    entries: &'a [u8; State::CELLS],
+) -> usize
     requires { ⌜ at + 768 ≤ room ⌝ }
-    ensures { λ r. ⌜ Wrote (now (out .entry)) at (names (c .state) (c .state .count)) (now (out .exit)) r ⌝ }
+    ensures { λ r. ⌜ Wrote (now (out .entry)) at (names (now (rights .entry)) (now (entries .entry)) n) (now (out .exit)) r ⌝ }
     ensures { λ r. ⌜ r ≤ at + 768 ⌝ }
 {
-    let n = c.state.count;
     let mut p = at;
     for x in 0..n {
-        p = put_name(out, p, c.name(x));
+        p = put_name(out, p, engine::name_in(rights, entries, x));
     }
     p
 }
 
-// "`end` and the node names in order"
-pub fn put_end(out: &mut [u8; ROOM], at: usize, c: Config) -> usize
+// "`end` and the node names in order". The configuration's arrays are lent, so that the loop before need not copy it.
+pub fn put_end<'a>(
+    out: &mut [u8; ROOM],
+    at: usize,
+    n: u8,
+    rights: &'a [u8; State::NODES],
+    entries: &'a [u8; State::CELLS],
+) -> usize
     requires { ⌜ at + 800 ≤ room ⌝ }
-    ensures { λ r. ⌜ Wrote (now (out .entry)) at (endLine (c .state)) (now (out .exit)) r ⌝ }
+    ensures { λ r. ⌜ Wrote (now (out .entry)) at (endIn n (now (rights .entry)) (now (entries .entry))) (now (out .exit)) r ⌝ }
     ensures { λ r. ⌜ r ≤ at + 800 ⌝ }
 {
     let p = put_text(out, at, b"end");
-    let q = put_names(out, p, c);
+    let q = put_names(out, p, n, rights, entries);
     put_byte(out, q, b'\n')
 }
 

@@ -84,10 +84,10 @@ events-spec =
       search needs,
       search needs,
       search needs,
-      turned s at _ _ (turn .events .inv .4) (search needs) q ok (told .event .ensures) (answered .onward .ensures) (c .before .put-line .ensures .0),
+      turned s at _ _ (turn .events .inv .4) (search needs) q ok (told .event .ensures) (answered .onward .ensures) (c .put-line .ensures .0),
     ))
     (λ c κs. search needs)
-    (λ c. let j = c .before .before .before in
+    (λ c. let j = c .before .before .before .before .before .before in
     let g = stopped j in
     (ends _ _ _ _ _ (j .before .events .inv .4) (g .0) (g .1) (search needs) (c .put-end .ensures .0), search needs))
     (λ c κs. search needs)

@@ -1,12 +1,12 @@
 -- `put_end` meets its contract: three texts one after the other.
 use borrow.Author.Needs.{needs}
-use Rattle.trails.specs.Text.{endLine}
+use Rattle.trails.specs.Text.{endIn}
 use Rattle.trails.proofs.Writing.{wrote-then}
 use Rattle.trails.proofs.text.put_end.Statement.{statement}
 use Rattle.trails.proofs.text.put_end.Tie as tie
 
 pub put-end-spec : {M : Type 1} → statement M
-unfolding endLine
+unfolding endIn
 put-end-spec =
     tie.close (tie.spec
     (λ c. search needs)

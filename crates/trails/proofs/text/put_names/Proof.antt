@@ -7,13 +7,13 @@ use Rattle.trails.proofs.text.put_names.Statement.{statement}
 use Rattle.trails.proofs.text.put_names.Tie as tie
 
 abbrev Inv-loop : tie.InvT-loop
-Inv-loop out₀ at c n p₀ x₀ out p x = (x ≤ n) × (p ≤ at + 3 * x) × Wrote out₀ at (names (c .state) x) out p
+Inv-loop out₀ at n rights entries p₀ x₀ out p x = (x ≤ n) × (p ≤ at + 3 * x) × Wrote out₀ at (names rights entries x) out p
 
 pub put-names-spec : {M : Type 1} → statement M
 put-names-spec =
     tie.close (tie.spec
     Inv-loop
-    (λ out₀ at c n p₀ x₀ out p x. n - x)
+    (λ out₀ at n rights entries p₀ x₀ out p x. n - x)
     (λ c. search naming)
     (λ c κs. search needs)
     (λ c κs. search needs)
