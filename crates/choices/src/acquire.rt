@@ -11,52 +11,68 @@ use rules::codes::Rights;
 pub fn asks_from(purpose: u8, rights: u8) -> bool
     ensures { λ r. ⌜ r ≡ asksFrom purpose rights ⌝ }
 {
-    (purpose == Purpose::LOAD) & (rights == Rights::N)
-        | (purpose == Purpose::STORE) & ((rights == Rights::N) | (rights == Rights::B))
+    match purpose {
+        Purpose::NONE => false,
+        Purpose::LOAD => rights == Rights::N,
+        Purpose::STORE => (rights == Rights::N) | (rights == Rights::B),
+        Purpose::EVICT => false,
+        _ => false,
+    }
 }
 
 // "AcquireB for load, AcquireT from N, AcquireU from B"
 pub fn acquire_for(purpose: u8, rights: u8) -> u8
     ensures { λ r. ⌜ r ≡ acquireFor purpose rights ⌝ }
 {
-    if purpose == Purpose::LOAD {
-        return Message::ACQUIRE_B;
-    }
-    if purpose == Purpose::STORE {
-        if rights == Rights::N {
-            return Message::ACQUIRE_T;
+    match purpose {
+        Purpose::NONE => Message::EMPTY,
+        Purpose::LOAD => Message::ACQUIRE_B,
+        Purpose::STORE => {
+            if rights == Rights::N {
+                return Message::ACQUIRE_T;
+            }
+            Message::ACQUIRE_U
         }
-        return Message::ACQUIRE_U;
+        Purpose::EVICT => Message::EMPTY,
+        _ => Message::EMPTY,
     }
-    Message::EMPTY
 }
 
 // "AcquireB/T: child's entry None; AcquireU: not Trunk"
 pub fn acquire_fits(a: u8, entry: u8) -> bool
     ensures { λ r. ⌜ r ≡ acquireFits a entry ⌝ }
 {
-    ((a == Message::ACQUIRE_B) | (a == Message::ACQUIRE_T)) & (entry == Entry::NONE)
-        | (a == Message::ACQUIRE_U) & (entry != Entry::TRUNK)
+    match a {
+        Message::EMPTY => false,
+        Message::ACQUIRE_B => entry == Entry::NONE,
+        Message::ACQUIRE_T => entry == Entry::NONE,
+        Message::ACQUIRE_U => entry != Entry::TRUNK,
+        _ => false,
+    }
 }
 
 // "purpose load for B, store for T/U"
 pub fn purpose_for(a: u8) -> u8
     ensures { λ r. ⌜ r ≡ purposeFor a ⌝ }
 {
-    if a == Message::ACQUIRE_B {
-        return Purpose::LOAD;
+    match a {
+        Message::EMPTY => Purpose::NONE,
+        Message::ACQUIRE_B => Purpose::LOAD,
+        Message::ACQUIRE_T => Purpose::STORE,
+        Message::ACQUIRE_U => Purpose::STORE,
+        _ => Purpose::NONE,
     }
-    let stores = (a == Message::ACQUIRE_T) | (a == Message::ACQUIRE_U);
-    if stores {
-        return Purpose::STORE;
-    }
-    Purpose::NONE
 }
 
 // "load at T: Trunk entries; load otherwise: none; store: all not None but the requester"
-pub fn probed_for(purpose: u8, name: u8, requester: usize, entry: u8, child: usize) -> bool
+pub fn probed_for(purpose: u8, name: u8, requester: u8, entry: u8, child: u8) -> bool
     ensures { λ r. ⌜ r ≡ probedFor purpose name requester entry child ⌝ }
 {
-    (purpose == Purpose::LOAD) & (name == Name::T) & (entry == Entry::TRUNK)
-        | (purpose == Purpose::STORE) & (entry != Entry::NONE) & (child != requester)
+    match purpose {
+        Purpose::NONE => false,
+        Purpose::LOAD => (name == Name::T) & (entry == Entry::TRUNK),
+        Purpose::STORE => (entry != Entry::NONE) & (child != requester),
+        Purpose::EVICT => false,
+        _ => false,
+    }
 }

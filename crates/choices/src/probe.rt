@@ -1,9 +1,7 @@
 // What kinds 8 to 11 decide: who serves a Probe, whom it is passed on to, and what the ProbeAck says (document 01, "Events").
 ghost use mathlib.Core.Path.{_≡_};
-ghost use Rattle.rules.specs.Configuration.{isProbeAck};
-ghost use Rattle.rules.specs.Probe.{acked, capFor, capMet, capRights, fallen, probeAckFor, probedBy, servesProbes};
-use crate::data::value_at;
-use rules::Node;
+ghost use Rattle.rules.specs.Probe.{capFor, capMet, capRights, carried, dataFits, fallen, probeAckFor, probedBy, servesProbes};
+use crate::messages::from_trunk;
 use rules::codes::Cap;
 use rules::codes::Entry;
 use rules::codes::Message;
@@ -18,41 +16,67 @@ pub fn cap_for(opened: bool, cap: u8, purpose: u8) -> u8
     if opened {
         return cap;
     }
-    if purpose == Purpose::LOAD {
-        return Cap::B;
+    match purpose {
+        Purpose::NONE => Cap::N,
+        Purpose::LOAD => Cap::B,
+        Purpose::STORE => Cap::N,
+        Purpose::EVICT => Cap::N,
+        _ => Cap::N,
     }
-    Cap::N
 }
 
 // "main Idle, Wait or Leaving"
 pub fn serves_probes(phase: u8) -> bool
     ensures { λ r. ⌜ r ≡ servesProbes phase ⌝ }
 {
-    (phase == Phase::IDLE) | (phase == Phase::WAIT) | (phase == Phase::LEAVING)
+    match phase {
+        Phase::IDLE => true,
+        Phase::CLEAR => false,
+        Phase::ASK => false,
+        Phase::WAIT => true,
+        Phase::CONFIRM => false,
+        Phase::GIVE => false,
+        Phase::AWAIT => false,
+        Phase::LET_GO => false,
+        Phase::LEAVING => true,
+        _ => false,
+    }
 }
 
 // "Trunk entries for cap B, all not None for cap N"
 pub fn probed_by(cap: u8, entry: u8) -> bool
     ensures { λ r. ⌜ r ≡ probedBy cap entry ⌝ }
 {
-    (cap == Cap::B) & (entry == Entry::TRUNK) | (cap == Cap::N) & (entry != Entry::NONE)
+    match cap {
+        Cap::NONE => false,
+        Cap::B => entry == Entry::TRUNK,
+        Cap::N => entry != Entry::NONE,
+        _ => false,
+    }
 }
 
 // "cap N: all entries None; cap B: none Trunk"
-pub fn cap_met(cap: u8, all_none: bool, some_trunk: bool) -> bool
-    ensures { λ r. ⌜ r ≡ capMet cap «all_none» «some_trunk» ⌝ }
+pub fn cap_met(cap: u8, bare: bool, some_trunk: bool) -> bool
+    ensures { λ r. ⌜ r ≡ capMet cap bare «some_trunk» ⌝ }
 {
-    (cap == Cap::N) & all_none | (cap == Cap::B) & !some_trunk
+    match cap {
+        Cap::NONE => false,
+        Cap::B => !some_trunk,
+        Cap::N => bare,
+        _ => false,
+    }
 }
 
 // The rights that a cap leaves at most.
 pub fn cap_rights(cap: u8) -> u8
     ensures { λ r. ⌜ r ≡ capRights cap ⌝ }
 {
-    if cap == Cap::B {
-        return Rights::B;
+    match cap {
+        Cap::NONE => Rights::N,
+        Cap::B => Rights::B,
+        Cap::N => Rights::N,
+        _ => Rights::N,
     }
-    Rights::N
 }
 
 // "rights fall to the cap if above it"
@@ -67,6 +91,15 @@ pub fn fallen(cap: u8, rights: u8) -> u8
 }
 
 // "carries the value exactly if dirty"
+pub fn carried(dirty: bool, value: u64) -> u64
+    ensures { λ r. ⌜ r ≡ carried dirty value ⌝ }
+{
+    if dirty {
+        return value;
+    }
+    0
+}
+
 pub fn probe_ack_for(dirty: bool) -> u8
     ensures { λ r. ⌜ r ≡ probeAckFor dirty ⌝ }
 {
@@ -76,22 +109,10 @@ pub fn probe_ack_for(dirty: bool) -> u8
     Message::PROBE_ACK
 }
 
-// "becomes clean; closes", at the new rights
-pub fn acked(m: Node, rights: u8) -> Node
-    ensures { λ r. ⌜ r ≡ acked m rights ⌝ }
+// "data only from a Trunk entry"
+pub fn data_fits(c: u8, entry: u8) -> bool
+    ensures { λ r. ⌜ r ≡ dataFits c entry ⌝ }
 {
-    let value = value_at(rights, m.value);
-    let mut t = m;
-    t.value = value;
-    t.dirty = false;
-    t.probe = false;
-    t.cap = Cap::NONE;
-    t
-}
-
-// "C holds one": a ProbeAck with or without data.
-pub fn is_probe_ack(c: u8) -> bool
-    ensures { λ r. ⌜ r ≡ isProbeAck c ⌝ }
-{
-    (c == Message::PROBE_ACK) | (c == Message::PROBE_ACK_DATA)
+    let bound = from_trunk(c);
+    !bound | (entry == Entry::TRUNK)
 }

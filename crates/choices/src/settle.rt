@@ -1,50 +1,33 @@
-// Settle, and what the rows say of transactions (document 01, "Events").
+// Settle (document 01, "Events").
 ghost use mathlib.Core.Path.{_≡_};
-ghost use Rattle.rules.specs.Settle.{allIdle, idled, nextPhase, phaseAfter};
+ghost use Rattle.rules.specs.Settle.{nextPhase, phaseAfter, settledPhase};
 use rules::Node;
-use rules::codes::Child;
 use rules::codes::Phase;
 use rules::codes::Purpose;
 use rules::codes::Rights;
-
-// "all three transactions idle"
-pub fn all_idle(m: Node) -> bool
-    ensures { λ r. ⌜ r ≡ allIdle m ⌝ }
-{
-    (m.phase == Phase::IDLE) & !m.probe & (m.release == Child::NONE)
-}
-
-// "Idle clears purpose and requester."
-pub fn idled(m: Node) -> Node
-    ensures { λ r. ⌜ r ≡ idled m ⌝ }
-{
-    let mut t = m;
-    t.phase = Phase::IDLE;
-    t.purpose = Purpose::NONE;
-    t.requester = Child::NONE;
-    t
-}
+use rules::kinds::Settles;
 
 // "load: Give unless rights are N, then Ask; store: Give at Tip, else Ask; evict: LetGo"
 pub fn next_phase(purpose: u8, rights: u8) -> u8
     ensures { λ r. ⌜ r ≡ nextPhase purpose rights ⌝ }
 {
-    if purpose == Purpose::LOAD {
-        if rights == Rights::N {
-            return Phase::ASK;
+    match purpose {
+        Purpose::NONE => Phase::CLEAR,
+        Purpose::LOAD => {
+            if rights == Rights::N {
+                return Phase::ASK;
+            }
+            Phase::GIVE
         }
-        return Phase::GIVE;
-    }
-    if purpose == Purpose::STORE {
-        if rights == Rights::TIP {
-            return Phase::GIVE;
+        Purpose::STORE => {
+            if rights == Rights::TIP {
+                return Phase::GIVE;
+            }
+            Phase::ASK
         }
-        return Phase::ASK;
+        Purpose::EVICT => Phase::LET_GO,
+        _ => Phase::CLEAR,
     }
-    if purpose == Purpose::EVICT {
-        return Phase::LET_GO;
-    }
-    Phase::CLEAR
 }
 
 // "if both sets are empty, and the purpose is new or main was in Clear, the phase becomes: .. A new purpose with members in
@@ -60,4 +43,15 @@ pub fn phase_after(both_empty: bool, new: bool, phase: u8, purpose: u8, rights: 
         return Phase::CLEAR;
     }
     phase
+}
+
+// The phase of a node once its kind has settled as its row says.
+pub fn settled_phase(settles: Settles, both_empty: bool, m: Node, rights: u8) -> u8
+    ensures { λ r. ⌜ r ≡ settledPhase settles «both_empty» m rights ⌝ }
+{
+    match settles {
+        Settles::Never => m.phase,
+        Settles::Again => phase_after(both_empty, false, m.phase, m.purpose, rights),
+        Settles::Anew => phase_after(both_empty, true, m.phase, m.purpose, rights),
+    }
 }

@@ -1,90 +1,91 @@
 -- "Every accepted step gives a new configuration": on the same tree, from any configuration, reached or not.
-use mathlib.Core.Path.{_≡_, refl}
-use mathlib.Core.Bool.{true, not, false≢true}
+use mathlib.Core.Path.{_≡_}
+use mathlib.Core.Bool.{true, not}
 use mathlib.Core.Logic.{_≢_}
-use Prim.Native.Nat.{ℕ}
-use native.Mathlib.Omega.{arith}
-use borrow.Author.Tests.{eqb-false, not-true, not-false}
+use Prim.Native.Nat.{ℕ, _<_}
+use borrow.Author.Tests.{eqb-false, not-true}
 use lib.Dec.{eqb}
 use Rattle.words.specs.Vocab.{choose}
-use Rattle.words.proofs.Facts.{by-test}
-use Rattle.rules.specs.Codes.{toLoad, toStore}
-use Rattle.rules.specs.Tree.{treeOk, isChild, isLeaf}
+use Rattle.rules.specs.Codes.{nodes, accepts}
+use Rattle.rules.specs.Cells.{node}
+use Rattle.rules.specs.Tree.{goodTree, isChild, isLeaf}
 use Rattle.rules.specs.Configuration.{configurationOk}
-use Rattle.rules.specs.Events.{takesChild, placeRule}
-use Rattle.rules.specs.Step.{Row, rows, judged, stepOf, onwardOf}
+use Rattle.rules.specs.Scenes.{sceneOf}
+use Rattle.rules.specs.Table.{Kind, kinds, numbered}
+use Rattle.rules.specs.Events.{otherFits, placeFits, placeOk}
+use Rattle.rules.specs.Step.{endOf, linkThere, doneBy, nextOf, stepOf, onwardOf}
 use Rattle.rules.specs.declared.State.{State}
 use Rattle.rules.specs.declared.Event.{Event}
-use Rattle.rules.specs.declared.Answer.{Answer}
 use Rattle.writes.proofs.Writes.{Sized}
-use Rattle.writes.proofs.Needs.{child, load-miss-needs, store-miss-needs}
-use Rattle.writes.proofs.Judged.{tree, known, other-child, Taken, judged-taken, step-taken, Every, end, each, by-kind}
-use Rattle.closed.proofs.Frame.{Here, Kept}
-use Rattle.closed.proofs.Local.{store-keeps, miss-keeps, evict-keeps}
+use Rattle.writes.proofs.Effects.{store-writes, load-miss-writes, store-miss-writes, evict-writes, send-acquire-writes, take-acquire-writes, send-probe-writes, take-probe-writes, send-probe-ack-writes, take-probe-ack-writes, take-grant-writes, send-grant-ack-writes, send-grant-writes, take-grant-ack-writes, send-release-writes, take-release-writes, send-release-ack-writes, take-release-ack-writes}
+use Rattle.writes.proofs.Needs.{store-needs, load-miss-needs, store-miss-needs, evict-needs, send-acquire-needs, take-acquire-needs, take-probe-needs, send-probe-ack-needs, take-probe-ack-needs, take-grant-needs, send-grant-ack-needs, send-grant-needs, send-release-needs, take-release-needs}
+use Rattle.writes.proofs.Judged.{tree, known, Taken, step-taken, onward-taken, Every, end, each, by-kind}
+use Rattle.closed.proofs.Frame.{Here, Kept, in-array, child-array}
+use Rattle.closed.proofs.Local.{load-writes, load-keeps, store-keeps, load-miss-keeps, store-miss-keeps, evict-keeps}
 use Rattle.closed.proofs.Acquire.{send-acquire-keeps, take-acquire-keeps}
 use Rattle.closed.proofs.Probe.{send-probe-keeps, take-probe-keeps, send-probe-ack-keeps, take-probe-ack-keeps}
 use Rattle.closed.proofs.Grant.{take-grant-keeps, send-grant-ack-keeps, send-grant-keeps, take-grant-ack-keeps}
 use Rattle.closed.proofs.Release.{send-release-keeps, take-release-keeps, send-release-ack-keeps, take-release-ack-keeps}
 
--- the row r of the kind k gives a configuration
-abbrev Keeps : ℕ → Row → Type 0
-Keeps k r =
-    (s : State) (e : Event) → Here s (e .node) → placeRule k (e .node) (isLeaf s (e .node)) ≡ true
-    → (takesChild k ≡ true → isChild s (e .node) (e .other) ≡ true) → r .needs s e ≡ true → Kept s (r .does s e)
+-- the link that the kind acts on, and the configuration after it
+abbrev linkOf : Kind → State → Event → ℕ
+linkOf k s e = endOf (k .row .end) (node s (e .node)) (e .node) (e .other)
+
+abbrev done : Kind → State → Event → State
+done k s e = doneBy k s e (linkOf k s e) (sceneOf s (e .node) (linkOf k s e))
+
+-- the kind gives a configuration, where it is in place, its link is there and its needs hold
+abbrev Keeps : Kind → Type 0
+Keeps k =
+    (s : State) (e : Event) → Here s (e .node) → Sized s → e .node < nodes → placeFits (k .row .place) (isLeaf s (e .node)) (e .node) ≡ true
+    → otherFits (k .row .other) (isChild s (e .node) (e .other)) (e .other) ≡ true
+    → linkThere (k .row .end) (isChild s (e .node) (linkOf k s e)) ≡ true → k .needs (sceneOf s (e .node) (linkOf k s e)) e ≡ true → Kept s (done k s e)
 
 nonzero : (x : ℕ) → not (eqb x 0) ≡ true → x ≢ 0
 nonzero x h = eqb-false x 0 (not-true _ h)
 
-kinds : Every Keeps 0 rows
-unfolding placeRule choose
-kinds =
-    each (λ s e h p o n. absurd (false≢true n))
-    (each (λ s e h p o n. record { count = refl; parents = refl; sized = h .sized; configuration = h .configuration })
-    (each (λ s e h p o n. store-keeps s (e .node) h (e .value) n)
-    (each (λ s e h p o n. miss-keeps s (e .node) h toLoad refl p (load-miss-needs s (e .node) n .quiet .main))
-    (each (λ s e h p o n. miss-keeps s (e .node) h toStore refl p (store-miss-needs s (e .node) n .quiet .main))
-    (each (λ s e h p o n. evict-keeps s (e .node) h n)
-    (each (λ s e h p o n. send-acquire-keeps s (e .node) h (nonzero _ p) n)
-    (each (λ s e h p o n. take-acquire-keeps s (e .node) h (e .other) (child s _ _ (o refl)) n)
-    (each (λ s e h p o n. send-probe-keeps s (e .node) h (e .other) (child s _ _ (o refl)))
-    (each (λ s e h p o n. take-probe-keeps s (e .node) h (nonzero _ p) n)
-    (each (λ s e h p o n. send-probe-ack-keeps s (e .node) h (nonzero _ p) n)
-    (each (λ s e h p o n. take-probe-ack-keeps s (e .node) h (e .other) (child s _ _ (o refl)) n)
-    (each (λ s e h p o n. take-grant-keeps s (e .node) h (nonzero _ p) n)
-    (each (λ s e h p o n. send-grant-ack-keeps s (e .node) h (nonzero _ p) n)
-    (each (λ s e h p o n. send-grant-keeps s (e .node) h (e .other) n)
-    (each (λ s e h p o n. take-grant-ack-keeps s (e .node) h n)
-    (each (λ s e h p o n. send-release-keeps s (e .node) h (nonzero _ p) n)
-    (each (λ s e h p o n. take-release-keeps s (e .node) h (e .other) (child s _ _ (o refl)) n)
-    (each (λ s e h p o n. send-release-ack-keeps s (e .node) h n)
-    (each (λ s e h p o n. take-release-ack-keeps s (e .node) h (nonzero _ p))
-    end)))))))))))))))))))
+kinds-keep : Every Keeps kinds
+unfolding placeFits otherFits linkThere endOf numbered choose
+kinds-keep =
+    each (λ s e h z b p o j n. load-keeps s e _ h (load-writes s z e b))
+    (each (λ s e h z b p o j n. store-keeps s e _ h (store-writes s z e b) (store-needs s _ n))
+    (each (λ s e h z b p o j n. load-miss-keeps s e _ h (load-miss-writes s z e b) (load-miss-needs s _ n) p)
+    (each (λ s e h z b p o j n. store-miss-keeps s e _ h (store-miss-writes s z e b) (store-miss-needs s _ n) p)
+    (each (λ s e h z b p o j n. evict-keeps s e _ h (evict-writes s z e b) (evict-needs s _ n))
+    (each (λ s e h z b p o j n. send-acquire-keeps s e _ h (send-acquire-writes s z e b) (send-acquire-needs s _ n) (nonzero _ p))
+    (each (λ s e h z b p o j n. take-acquire-keeps s e _ h (take-acquire-writes s z e b _ (child-array h _ o)) (take-acquire-needs s _ _ n) o)
+    (each (λ s e h z b p o j n. send-probe-keeps s e _ h _ o (send-probe-writes s z e b _ (child-array h _ o)))
+    (each (λ s e h z b p o j n. take-probe-keeps s e _ h (take-probe-writes s z e b) (take-probe-needs s _ n) (nonzero _ p))
+    (each (λ s e h z b p o j n. send-probe-ack-keeps s e _ h (send-probe-ack-writes s z e b) (send-probe-ack-needs s _ n) (nonzero _ p))
+    (each (λ s e h z b p o j n. take-probe-ack-keeps s e _ h _ o (take-probe-ack-writes s z e b _ (child-array h _ o)) (take-probe-ack-needs s _ _ n))
+    (each (λ s e h z b p o j n. take-grant-keeps s e _ h (take-grant-writes s z e b) (take-grant-needs s _ n) (nonzero _ p))
+    (each (λ s e h z b p o j n. send-grant-ack-keeps s e _ h (send-grant-ack-writes s z e b) (send-grant-ack-needs s _ n) (nonzero _ p))
+    (each (λ s e h z b p o j n. send-grant-keeps s e _ h j (send-grant-writes s z e b _ (child-array h _ j)) (send-grant-needs s _ _ j n))
+    (each (λ s e h z b p o j n. take-grant-ack-keeps s e _ h j (take-grant-ack-writes s z e b _ (child-array h _ j)))
+    (each (λ s e h z b p o j n. send-release-keeps s e _ h (send-release-writes s z e b) (send-release-needs s _ n) (nonzero _ p))
+    (each (λ s e h z b p o j n. take-release-keeps s e _ h (take-release-writes s z e b _ (child-array h _ o)) (take-release-needs s _ _ n) o)
+    (each (λ s e h z b p o j n. send-release-ack-keeps s e _ h (send-release-ack-writes s z e b _ (child-array h _ j)) j)
+    (each (λ s e h z b p o j n. take-release-ack-keeps s e _ h (take-release-ack-writes s z e b) (nonzero _ p))
+    end))))))))))))))))))
 
-taken-keeps : {s : State} {e : Event} {t : State} → Sized s → treeOk (s .count) (s .parents) ≡ true → configurationOk s ≡ true → Taken s e t → Kept s t
+-- an event that has passed numbers 3, 4 and 5, in a configuration on a good tree
+pub taken-keeps : {s : State} {e : Event} → Sized s → goodTree s ≡ true → configurationOk s ≡ true → Taken s e → Kept s (nextOf s e)
+unfolding placeOk nextOf
 taken-keeps {s} {e} z g c w =
     let k = known s e (w .event) in
-    rw (w .does)
-    (by-kind Keeps kinds (e .kind) (k .kind) s e
-    record { sized = z; configuration = c; inside = k .inside; most = tree (s .count) (s .parents) g .most }
-    (w .place) (other-child s e (k .other)) (w .needs))
+    let h : Here s (e .node) = record { sized = z; configuration = c; inside = k .inside; most = tree (s .count) (s .parents) g .most } in
+    by-kind Keeps kinds-keep (e .kind) (k .kind) .1 s e h z (in-array h) (w .place) (k .other) (w .turn .there) (w .turn .needs)
 
--- numbers 3, 4 and 5 pass, in a configuration on a good tree
-pub judged-keeps : (s : State) (e : Event) → Sized s → treeOk (s .count) (s .parents) ≡ true → configurationOk s ≡ true → judged s e .number ≡ 0 → Kept s (judged s e .state)
-judged-keeps s e z g c h = taken-keeps z g c (judged-taken s e h)
+pub step-keeps : (s : State) (e : Event) → Sized s → stepOf s e .number ≡ accepts → Kept s (stepOf s e .state)
+step-keeps s e z h = let w = step-taken s e h in rw (w .next) (taken-keeps z (w .tree) (w .configuration) (w .taken))
 
-pub step-keeps : (s : State) (e : Event) → Sized s → stepOf s e .number ≡ 0 → Kept s (stepOf s e .state)
-step-keeps s e z h = let w = step-taken s e h in taken-keeps z (w .tree) (w .configuration) (w .taken)
-
-pub onward-keeps : (s : State) (e : Event) → Sized s → configurationOk s ≡ true → onwardOf s e .number ≡ 0 → Kept s (onwardOf s e .state)
-unfolding onwardOf
-onward-keeps s e z c =
-    by-test (λ (a : Answer). a .number ≡ 0 → Kept s (a .state)) (not (treeOk (s .count) (s .parents))) _ _
-    (λ _ h. absurd (omega arith)) (λ g h. judged-keeps s e z (not-false _ g) c h)
+pub onward-keeps : (s : State) (e : Event) → Sized s → configurationOk s ≡ true → onwardOf s e .number ≡ accepts → Kept s (onwardOf s e .state)
+onward-keeps s e z c h = let w = onward-taken s e h in rw (w .next) (taken-keeps z (w .tree) c (w .taken))
 
 -- the tree stays good
-pub tree-stays : {s t : State} → Kept s t → treeOk (s .count) (s .parents) ≡ true → treeOk (t .count) (t .parents) ≡ true
+pub tree-stays : {s t : State} → Kept s t → goodTree s ≡ true → goodTree t ≡ true
 tree-stays k g = rw (k .count, k .parents) g
 
 -- an accepted step gives a configuration
-pub closed : (s : State) (e : Event) → Sized s → stepOf s e .number ≡ 0 → configurationOk (stepOf s e .state) ≡ true
+pub closed : (s : State) (e : Event) → Sized s → stepOf s e .number ≡ accepts → configurationOk (stepOf s e .state) ≡ true
 closed s e z h = step-keeps s e z h .configuration

@@ -1,22 +1,22 @@
 -- The one frame law: a step at x gives a configuration if what it writes is right where it is written. Nothing else moved.
-use mathlib.Core.Path.{_≡_, _∙_}
-use mathlib.Core.Bool.{Bool, true, false, not, _&&_, _||_}
+use mathlib.Core.Path.{_≡_}
+use mathlib.Core.Bool.{Bool, true, false, _&&_, _||_}
 use mathlib.Core.Logic.{_≢_, _⊎_, inl, inr}
 use Prim.Native.Nat.{ℕ, _<_, _≤_}
 use native.Mathlib.Decide.{ℕ-discrete}
 use native.Mathlib.Omega.{arith}
-use borrow.Author.Tests.{lt-ltb, eq-eqb, ne-eqb}
+use borrow.Author.Tests.{lt-ltb}
 use lib.Dec.{eqb, ltb}
-use Rattle.words.proofs.Facts.{both, and-true, or-left, choose-true, any-at}
+use Rattle.words.proofs.Facts.{both, and-true, or-left, any-at}
 use Rattle.rules.specs.Codes.{nodes}
 use Rattle.rules.specs.Cells.{parent, rights, node, link}
-use Rattle.rules.specs.Tree.{childIn, leafIn, isChild, isLeaf}
-use Rattle.rules.specs.Configuration.{standsRule, slotsEmpty, configurationOk}
+use Rattle.rules.specs.Tree.{leafIn, isChild, isLeaf}
+use Rattle.rules.specs.Configuration.{standsOk, slotsEmpty, configurationOk}
 use Rattle.rules.specs.declared.State.{State}
 use Rattle.rules.specs.declared.Node.{Node}
 use Rattle.rules.specs.declared.Link.{Link}
 use Rattle.writes.proofs.Writes.{Sized, Writes, sized}
-use Rattle.writes.proofs.Needs.{Child}
+use Rattle.writes.proofs.Needs.{child}
 use Rattle.closed.proofs.Parts.{Own, Slots, Pair}
 use Rattle.closed.proofs.Fits.{Fits, fits, from-fits}
 
@@ -47,15 +47,15 @@ pub record Right (s : State) (x j r : ℕ) (m : Node) (l : Link) (es : ℕ → �
   pub pairs : (k : ℕ) → k < nodes → Pair r (isChild s x k) (es k) (ws k) (ps k)
 
 -- where a node stands: below the root, or with no message on its link; beyond the last node it is blank
-pub stands-below : (n y p r : ℕ) (m : Node) (l : Link) → y < n → y ≢ 0 → standsRule n y p r m l ≡ true
-unfolding standsRule
+stands-below : (n y p r : ℕ) (m : Node) (l : Link) → y < n → y ≢ 0 → standsOk n y p r m l ≡ true
+unfolding standsOk
 stands-below n y p r m l h o =
     let z : 0 < y = omega arith in
     and-true _ _ (or-left _ _ (and-true _ _ (lt-ltb 0 y z) (lt-ltb y n h))) (or-left _ _ (lt-ltb y n h))
 
 -- the fields of a node of the tree do not matter to it
-stands-inside : (n y p r r′ : ℕ) (m m′ : Node) (l : Link) → y < n → standsRule n y p r m l ≡ true → standsRule n y p r′ m′ l ≡ true
-unfolding standsRule
+stands-inside : (n y p r r′ : ℕ) (m m′ : Node) (l : Link) → y < n → standsOk n y p r m l ≡ true → standsOk n y p r′ m′ l ≡ true
+unfolding standsOk
 stands-inside n y p r r′ m m′ l h g =
     let u = both ((ltb 0 y && ltb y n) || (eqb p 0 && slotsEmpty l)) _ g in and-true _ _ (u .0) (or-left (ltb y n) _ (lt-ltb y n h))
 
@@ -73,10 +73,10 @@ module _ {s t : State} {x j r : ℕ} {m : Node} {l : Link} {es : ℕ → ℕ} {w
   link-fits y f = link-of (λ (u : Link). Slots u) y (f .link) (λ _. g .link)
 
   -- with the fields that y had
-  stands-fits : (y : ℕ) → Fits s y → standsRule (s .count) y (parent s y) (rights s y) (node s y) (link t y) ≡ true
-  stands-fits y f = link-of (λ (u : Link). standsRule (s .count) y (parent s y) (rights s y) (node s y) u ≡ true) y (f .stands) (λ e. go e (g .place))
+  stands-fits : (y : ℕ) → Fits s y → standsOk (s .count) y (parent s y) (rights s y) (node s y) (link t y) ≡ true
+  stands-fits y f = link-of (λ (u : Link). standsOk (s .count) y (parent s y) (rights s y) (node s y) u ≡ true) y (f .stands) (λ e. go e (g .place))
     where
-      go : y ≡ j → (l ≡ link s j) ⊎ Below s j → standsRule (s .count) y (parent s y) (rights s y) (node s y) l ≡ true
+      go : y ≡ j → (l ≡ link s j) ⊎ Below s j → standsOk (s .count) y (parent s y) (rights s y) (node s y) l ≡ true
       go e (inl q) = rw (q, ← e) (f .stands)
       go e (inr b) = stands-below (s .count) y _ _ _ _ (rw e (b .inside)) (rw e (b .below))
 
@@ -93,7 +93,8 @@ module _ {s t : State} {x j r : ℕ} {m : Node} {l : Link} {es : ℕ → ℕ} {w
     own = rw (w .count, w .parents, w .rights .off y o, w .nodes .off y o) (f .own);
     link = link-fits y f;
     stands = rw (w .count, w .parents, w .rights .off y o, w .nodes .off y o) (stands-fits y f);
-    pairs = λ k b. rw (w .count, w .parents, w .rights .off y o, w .entries .off y k b o, w .toProbe .off y k b o, w .pending .off y k b o) (f .pairs k b);
+    pairs = λ k b.
+        rw (w .count, w .parents, w .rights .off y o, w .entries .off y k b o, w .toProbe .off y k b o, w .pending .off y k b o) (f .pairs k b);
   }
 
   pub kept-by : Kept s t
@@ -119,22 +120,17 @@ module _ {s : State} {x : ℕ} (h : Here s x) where
   pub own-below : x ≢ 0 → Below s x
   own-below o = record { inside = h .inside; below = o }
 
-  module _ {k : ℕ} (c : Child s x k) where
+  -- and so has a child of x
+  module _ (k : ℕ) (c : isChild s x k ≡ true) where
     pub child-below : Below s k
-    child-below = record { inside = c .inside; below = c .below }
+    child-below = let u = child s x k c in record { inside = u .inside; below = u .below }
 
     pub child-array : k < nodes
-    child-array = omega (arith, c .inside, h .most)
+    child-array = omega (arith, child-below .inside, h .most)
 
     pub child-link : Slots (link s k)
     child-link = fits s (h .configuration) k child-array .link
 
-    pub child-test : isChild s x k ≡ true
-    unfolding childIn
-    child-test =
-        choose-true _ _ (lt-ltb k (s .count) (c .inside))
-        ∙ and-true (not (eqb k 0)) _ (rw (ne-eqb k 0 (c .below))) (eq-eqb (parent s k) x (c .parent))
-
     pub not-leaf : isLeaf s x ≡ false
     unfolding leafIn
-    not-leaf = rw (any-at (isChild s x) nodes k child-array child-test)
+    not-leaf = rw (any-at (isChild s x) nodes k child-array c)

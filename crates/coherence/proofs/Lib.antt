@@ -1,4 +1,5 @@
 pub mod Invariant
 pub mod Shared
+pub mod Meaning
 pub mod Steps
-pub mod Whole
+pub mod Theorem

@@ -1,6 +1,4 @@
 -- What several kinds share.
-pub mod Absent
-pub mod Calm
 pub mod Fallen
 pub mod Rows
 pub mod Settled

@@ -1,4 +1,5 @@
 -- Each kind keeps the invariant.
+pub mod Load
 pub mod Store
 pub mod Miss
 pub mod Evict

@@ -7,7 +7,7 @@ use Rattle.rules.specs.Codes.{rightsN, rightsB, tip, none, branch, trunk, nameT
 use Rattle.rules.specs.Cells.{parent, rights, entry, node, link, value}
 use Rattle.rules.specs.Names.{named, readable}
 use Rattle.rules.specs.Configuration.{slotsEmpty}
-use Rattle.rules.specs.Settle.{allIdle}
+use Rattle.rules.specs.Scenes.{allIdle}
 use Rattle.rules.specs.declared.State.{State}
 
 -- an entry says the rights: None and N, Branch and B, Trunk and Tip

@@ -4,6 +4,7 @@ use mathlib.Core.List.{List}
 use Prim.Native.Nat.{ℕ}
 use lib.Dec.{eqb}
 use Rattle.words.specs.Vocab.{choose}
+use Rattle.rules.specs.Codes.{accepts}
 use Rattle.rules.specs.Kinds.{kindStore}
 use Rattle.rules.specs.Step.{resetOf, stepOf}
 use Rattle.rules.specs.declared.State.{State}
@@ -15,5 +16,5 @@ lastOf e v = choose (eqb (e .kind) kindStore) (e .value) v
 
 -- s is reached, and v is the value of the last accepted store, or the first value
 pub data Reached : State → ℕ → Type 0 where
-  start : (n : ℕ) (ps : List ℕ) (v : ℕ) → resetOf n ps v .number ≡ 0 → Reached (resetOf n ps v .state) v
-  next : (s : State) (v : ℕ) (e : Event) → Reached s v → stepOf s e .number ≡ 0 → Reached (stepOf s e .state) (lastOf e v)
+  start : (n : ℕ) (ps : List ℕ) (v : ℕ) → resetOf n ps v .number ≡ accepts → Reached (resetOf n ps v .state) v
+  next : (s : State) (v : ℕ) (e : Event) → Reached s v → stepOf s e .number ≡ accepts → Reached (stepOf s e .state) (lastOf e v)

@@ -6,19 +6,25 @@ use Prim.Native.Nat.{ℕ}
 use lib.ListN.{replicate}
 use lib.Dec.{eqb}
 use Rattle.words.specs.Vocab.{all, any, fill, choose}
-use Rattle.rules.specs.Codes.{shared, sole, badTree, badEvent, wrongPlace, outOfTurn}
+use Rattle.rules.specs.Codes.{accepts, shared, sole, badTree, badEvent, wrongPlace, outOfTurn}
 use Rattle.rules.specs.Kinds.{kindLoad, kindStore, kindLoadMiss, kindStoreMiss, kindEvict, kindSendAcquire, kindTakeAcquire, kindSendProbe, kindTakeProbe, kindSendProbeAck, kindTakeGrant, kindSendGrantAck, kindSendGrant, kindTakeGrantAck, kindSendRelease}
-use Rattle.rules.specs.Tree.{treeOk, childIn, leafIn}
+-- opened: rules
+use Rattle.rules.specs.Tree.{treeOk, childBy, leafIn}
 use Rattle.rules.specs.Names.{someIn, noneIn, othersNoneIn, memberIn, nameOf}
-use Rattle.rules.specs.Configuration.{nodeRule, linkRule, pairRule, rowOk, standsRule, serves, nodeOk, configurationOk}
-use Rattle.rules.specs.Events.{otherOk, eventOk, placeRule}
-use Rattle.rules.specs.Settle.{nextPhase, phaseAfter}
-use Rattle.rules.specs.Local.{loadNeeds, storeNeeds, storeTo, missTo, loadMissNeeds, storeMissNeeds, evictNeeds, evictTo}
-use Rattle.rules.specs.Acquire.{asksFrom, sendAcquireNeeds, acquireFor, sendAcquireTo, acquireFits, takeAcquireNeeds, purposeFor, probedFor, takeAcquireTo}
-use Rattle.rules.specs.Probe.{sendProbeNeeds, capFor, sendProbeTo, takeProbeNeeds, probedBy, takeProbeTo, capMet, sendProbeAckNeeds, carried}
-use Rattle.rules.specs.Grant.{grantFits, takeGrantNeeds, grantedRights, installed, takeGrantTo, sendGrantAckNeeds, confirmed, sendGrantAckTo, mayGrant, sendGrantNeeds, grantFor, entryFor, grantValue, sendGrantTo, takeGrantAckNeeds, takeGrantAckTo}
-use Rattle.rules.specs.Release.{sendReleaseNeeds, releaseFor, sendReleaseTo}
-use Rattle.rules.specs.Step.{resetOf, startOf, treeParents, rowOf, judged, stepOf, onwardOf}
+use Rattle.rules.specs.Messages.{carriesUp, installs, fromTrunk, isProbeAck, isRelease, isGrant, carriesDown, grantedRights, entryFor}
+use Rattle.rules.specs.Configuration.{copyOk, serving, evicting, workOk, atLeaf, leafOk, hasRequester, requesterOk, childOk, probeOk, nodeOk, upOk, downOk, linkOk, memberOk, entryOk, pairOk, slotsEmpty, blank, standsOk, rightAt, configurationOk}
+use Rattle.rules.specs.Scenes.{valueAt, dirtyAt, dataTaken, installed}
+use Rattle.rules.specs.Settle.{nextPhase, phaseAfter, settledPhase}
+use Rattle.rules.specs.Local.{loadNeeds, storeNeeds, storeDoes, loadMissNeeds, loadMissDoes, storeMissNeeds, storeMissDoes, evictNeeds, evictDoes, held}
+use Rattle.rules.specs.Acquire.{asksFrom, sendAcquireNeeds, acquireFor, sendAcquireDoes, acquireFits, takeAcquireNeeds, purposeFor, takeAcquireDoes, probedFor}
+use Rattle.rules.specs.Probe.{sendProbeNeeds, capFor, sendProbeDoes, servesProbes, takeProbeNeeds, takeProbeDoes, probedBy, capMet, sendProbeAckNeeds, capRights, fallen, carried, probeAckFor, sendProbeAckDoes, dataFits, takeProbeAckNeeds, takeProbeAckDoes}
+use Rattle.rules.specs.Grant.{grantFits, takeGrantNeeds, takeGrantDoes, sendGrantAckNeeds, confirmed, sendGrantAckDoes, mayGrant, sendGrantNeeds, grantFor, grantValue, sendGrantDoes, takeGrantAckNeeds, takeGrantAckDoes}
+use Rattle.rules.specs.Release.{sendReleaseNeeds, releaseFor, sendReleaseDoes, awaits, takeReleaseNeeds, takeReleaseDoes, sendReleaseAckNeeds, sendReleaseAckDoes, takeReleaseAckNeeds, takeReleaseAckDoes}
+use Rattle.rules.specs.Table.{listed, numbered}
+use Rattle.rules.specs.Events.{otherFits, valueFits, placeFits, eventOk, placeOk}
+use Rattle.rules.specs.Step.{treeParent, treeParents, startOf, resetOf, endOf, linkThere, turnOk, probedIn, nextOf, valueOf, firstOf, answerOf, stepOf, onwardOf}
+-- opened: end
+-- besides: after
 use Rattle.rules.specs.declared.Event.{Event}
 use Rattle.rules.specs.declared.Answer.{Answer}
 
@@ -31,7 +37,7 @@ from n ps = resetOf n (0 ∷ ps) 7
 
 -- a step where all before it was accepted, and otherwise what refused
 abbrev then : Answer → Event → Answer
-then a e = choose (eqb (a .number) 0) (onwardOf (a .state) e) a
+then a e = choose (eqb (a .number) accepts) (onwardOf (a .state) e) a
 
 -- the answer after these events, each taken from the configuration before
 unfoldable pub after : Answer → List Event → Answer
@@ -75,7 +81,7 @@ abbrev pub starred : List Edge
 starred =
     at-reset (from 1 []) badTree
     ∷ at-reset (from 17 (replicate 15 0)) badTree
-    ∷ at-reset (from 4 (0 ∷ 0 ∷ 2 ∷ [])) 0
+    ∷ at-reset (from 4 (0 ∷ 0 ∷ 2 ∷ [])) accepts
     ∷ at-reset (from 4 (0 ∷ 0 ∷ 3 ∷ [])) badTree
     ∷ at-step pair (event 0 1 0 0) badEvent
     ∷ at-step pair (event 20 1 0 0) badEvent
@@ -83,14 +89,14 @@ starred =
     ∷ at-step pair (event kindEvict 0 0 0) wrongPlace
     ∷ at-step pair (event kindLoad 1 0 0) outOfTurn
     ∷ at-step (after pair (served kindLoadMiss shared 1)) (event kindStore 1 0 9) outOfTurn
-    ∷ at-step (after pair (served kindStoreMiss sole 1)) (event kindStore 1 0 9) 0
+    ∷ at-step (after pair (served kindStoreMiss sole 1)) (event kindStore 1 0 9) accepts
     ∷ at-step (after (after fork (served kindStoreMiss sole 1)) lateRelease) (event kindSendProbeAck 1 0 0) outOfTurn
     ∷ []
 
 abbrev pub every : List Edge → Bool
 every [] = true
-every (r ∷ rs) = eqb (r .before .number) 0 && eqb (r .answer .number) (r .number) && every rs
+every (r ∷ rs) = eqb (r .before .number) accepts && eqb (r .answer .number) (r .number) && every rs
 
 pub edges : every starred ≡ true
-unfolding after all any fill choose treeOk childIn leafIn someIn noneIn othersNoneIn memberIn nameOf nodeRule linkRule pairRule rowOk standsRule serves nodeOk configurationOk otherOk eventOk placeRule nextPhase phaseAfter loadNeeds storeNeeds storeTo missTo loadMissNeeds storeMissNeeds evictNeeds evictTo asksFrom sendAcquireNeeds acquireFor sendAcquireTo acquireFits takeAcquireNeeds purposeFor probedFor takeAcquireTo sendProbeNeeds capFor sendProbeTo takeProbeNeeds probedBy takeProbeTo capMet sendProbeAckNeeds grantFits takeGrantNeeds grantedRights installed takeGrantTo sendGrantAckNeeds confirmed sendGrantAckTo mayGrant sendGrantNeeds grantFor entryFor grantValue sendGrantTo takeGrantAckNeeds takeGrantAckTo sendReleaseNeeds releaseFor sendReleaseTo carried resetOf startOf treeParents rowOf judged stepOf onwardOf
+unfolding all any fill choose treeOk childBy leafIn someIn noneIn othersNoneIn memberIn nameOf carriesUp installs fromTrunk isProbeAck isRelease isGrant carriesDown grantedRights entryFor copyOk serving evicting workOk atLeaf leafOk hasRequester requesterOk childOk probeOk nodeOk upOk downOk linkOk memberOk entryOk pairOk slotsEmpty blank standsOk rightAt configurationOk valueAt dirtyAt dataTaken installed nextPhase phaseAfter settledPhase loadNeeds storeNeeds storeDoes loadMissNeeds loadMissDoes storeMissNeeds storeMissDoes evictNeeds evictDoes held asksFrom sendAcquireNeeds acquireFor sendAcquireDoes acquireFits takeAcquireNeeds purposeFor takeAcquireDoes probedFor sendProbeNeeds capFor sendProbeDoes servesProbes takeProbeNeeds takeProbeDoes probedBy capMet sendProbeAckNeeds capRights fallen carried probeAckFor sendProbeAckDoes dataFits takeProbeAckNeeds takeProbeAckDoes grantFits takeGrantNeeds takeGrantDoes sendGrantAckNeeds confirmed sendGrantAckDoes mayGrant sendGrantNeeds grantFor grantValue sendGrantDoes takeGrantAckNeeds takeGrantAckDoes sendReleaseNeeds releaseFor sendReleaseDoes awaits takeReleaseNeeds takeReleaseDoes sendReleaseAckNeeds sendReleaseAckDoes takeReleaseAckNeeds takeReleaseAckDoes listed numbered otherFits valueFits placeFits eventOk placeOk treeParent treeParents startOf resetOf endOf linkThere turnOk probedIn nextOf valueOf firstOf answerOf stepOf onwardOf after
 edges = refl

@@ -1,3 +1,2 @@
-pub mod Children
-pub mod Effects
-pub mod Dispatch
+pub mod Landing
+pub mod Moving

@@ -1,13 +1,12 @@
 // The configuration at reset, and the all-zero record of a bad tree.
 ghost use mathlib.Core.Path.{_≡_};
 ghost use Rattle.rules.specs.Cells.{blankNode, blankLink};
-ghost use Rattle.rules.specs.Step.{treeParents, startOf, blankState};
-ghost use Rattle.engine.specs.Parts.{treeParent};
-use crate::tree::parent_of;
+ghost use Rattle.rules.specs.Step.{treeParent, treeParents, startOf, blankState};
 use rules::Link;
 use rules::Node;
 use rules::State;
 use rules::codes::Rights;
+use trees::parent_of;
 
 fn blank_node() -> Node
     ensures { λ r. ⌜ r ≡ blankNode ⌝ }

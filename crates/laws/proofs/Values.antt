@@ -1,66 +1,50 @@
 -- "The answer value is the load's, else 0."
-use mathlib.Core.Path.{_≡_, refl, _∙_, sym, ap}
-use mathlib.Core.Bool.{Bool, true, false, not}
-use mathlib.Core.List.{List, map}
-use Prim.Native.Nat.{ℕ, zero, suc}
-use native.Mathlib.Omega.{arith}
-use lib.ListN.{getD, drop, length, replicate, List·getD-map}
+use mathlib.Core.Path.{_≡_, refl}
+use mathlib.Core.Bool.{Bool, true, _&&_, _||_}
+use mathlib.Core.Logic.{_≢_, _⊎_, inl, inr}
+use mathlib.Core.List.{List, [], _∷_}
+use Prim.Native.Nat.{ℕ}
+use borrow.Author.Tests.{eqb-true, eqb-false}
+use lib.Dec.{eqb}
 use Rattle.words.specs.Vocab.{choose}
+use Rattle.words.proofs.Facts.{both, either, by-test}
+use Rattle.rules.specs.Codes.{accepts}
 use Rattle.rules.specs.Kinds.{kindLoad}
 use Rattle.rules.specs.Cells.{value}
-use Rattle.rules.specs.Tree.{treeOk}
-use Rattle.rules.specs.Configuration.{configurationOk}
-use Rattle.rules.specs.Events.{eventOk, placeOk}
-use Rattle.rules.specs.Step.{Row, noRow, rows, rowOf, judged, stepOf}
+use Rattle.rules.specs.Table.{Kind, kinds, numbered}
+use Rattle.rules.specs.Step.{sceneAt, valueOf, firstOf, refusals, answerOf, stepOf}
 use Rattle.rules.specs.declared.State.{State}
+use Rattle.rules.specs.declared.Scene.{Scene}
 use Rattle.rules.specs.declared.Event.{Event}
-use Rattle.laws.proofs.Numbers.{given}
+use Rattle.rules.specs.declared.Answer.{Answer}
 
-zeros : (n i : ℕ) → getD {A = ℕ} (replicate n 0) i 0 ≡ 0
-zeros zero i = refl
-zeros (suc n) zero = refl
-zeros (suc n) (suc i) = zeros n i
+-- each kind of the list but the load says 0
+abbrev silent : Scene → List Kind → Bool
+silent v [] = true
+silent v (k ∷ ks) = (eqb (k .number) kindLoad || eqb (k .says v) 0) && silent v ks
 
--- of the rows but the load's
-row-silent : (s : State) (e : Event) (k : ℕ) → (k ≡ kindLoad → ⊥) → rowOf k .says s e ≡ 0
-unfolding rowOf
-row-silent s e zero h = refl
-row-silent s e (suc zero) h = absurd (h refl)
-row-silent s e (suc (suc k)) h =
-    let e₀ : map (λ (r : Row). r .says s e) (drop 2 rows) ≡ replicate (length (drop 2 rows)) 0 = refl in
-    sym (List·getD-map (λ (r : Row). r .says s e) (drop 2 rows) k noRow) ∙ ap (λ (l : List ℕ). getD l k 0) e₀ ∙ zeros (length (drop 2 rows)) k
+numbered-silent : (v : Scene) (ks : List Kind) (n : ℕ) → silent v ks ≡ true → n ≢ kindLoad → numbered ks n .says v ≡ 0
+unfolding numbered
+numbered-silent v [] n h o = refl
+numbered-silent v (k ∷ ks) n h o =
+    let u = both (eqb (k .number) kindLoad || eqb (k .says v) 0) (silent v ks) h in
+    by-test (λ (r : Kind). r .says v ≡ 0) (eqb n (k .number)) k (numbered ks n)
+    (λ e. go (eqb-true n (k .number) e) (either _ _ (u .0))) (λ _. numbered-silent v ks n (u .1) o)
+  where
+    go : n ≡ k .number → (eqb (k .number) kindLoad ≡ true) ⊎ (eqb (k .says v) 0 ≡ true) → k .says v ≡ 0
+    go e (inl q) = absurd (o (rw e (eqb-true (k .number) kindLoad q)))
+    go e (inr q) = eqb-true (k .says v) 0 q
 
-row-loads : (s : State) (e : Event) (k : ℕ) → k ≡ kindLoad → rowOf k .says s e ≡ value s (e .node)
-unfolding rowOf
-row-loads s e k h = rw h
+pub value-zero : (s : State) (e : Event) → e .kind ≢ kindLoad → stepOf s e .value ≡ 0
+unfolding stepOf answerOf valueOf
+value-zero s e o = by-test (λ (a : Answer). a .value ≡ 0) _ _ _ (λ _. numbered-silent (sceneAt s e) kinds (e .kind) refl o) (λ _. refl)
 
-given-value : (a b c d t : Bool) (s : State) (v : ℕ) (z : State) → v ≡ 0 → given a b c d t s v z .value ≡ 0
-unfolding choose
-given-value true b c d t s v z h = refl
-given-value false true c d t s v z h = refl
-given-value false false true d t s v z h = refl
-given-value false false false true t s v z h = refl
-given-value false false false false false s v z h = refl
-given-value false false false false true s v z h = h
+load-says : (s : State) (e : Event) → e .kind ≡ kindLoad → valueOf s e ≡ value s (e .node)
+unfolding valueOf numbered choose
+load-says s e k = rw k
 
-pub value-zero : (s : State) (e : Event) → (e .kind ≡ kindLoad → ⊥) → stepOf s e .value ≡ 0
-unfolding stepOf judged
-value-zero s e h =
-    given-value (not (treeOk (s .count) (s .parents))) (not (configurationOk s)) (not (eventOk s e)) (not (placeOk s e)) (rowOf (e .kind) .needs s e)
-    s (rowOf (e .kind) .says s e) (rowOf (e .kind) .does s e) (row-silent s e (e .kind) h)
-
-given-says : (a b c d t : Bool) (s : State) (v : ℕ) (z : State) → given a b c d t s v z .number ≡ 0 → given a b c d t s v z .value ≡ v
-unfolding choose
-given-says true b c d t s v z h = omega arith
-given-says false true c d t s v z h = omega arith
-given-says false false true d t s v z h = omega arith
-given-says false false false true t s v z h = omega arith
-given-says false false false false false s v z h = omega arith
-given-says false false false false true s v z h = refl
-
-pub value-loaded : (s : State) (e : Event) → e .kind ≡ kindLoad → stepOf s e .number ≡ 0 → stepOf s e .value ≡ value s (e .node)
-unfolding stepOf judged
-value-loaded s e k h =
-    given-says (not (treeOk (s .count) (s .parents))) (not (configurationOk s)) (not (eventOk s e)) (not (placeOk s e)) (rowOf (e .kind) .needs s e)
-    s (rowOf (e .kind) .says s e) (rowOf (e .kind) .does s e) h
-    ∙ row-loads s e (e .kind) k
+pub value-loaded : (s : State) (e : Event) → e .kind ≡ kindLoad → stepOf s e .number ≡ accepts → stepOf s e .value ≡ value s (e .node)
+unfolding stepOf answerOf
+value-loaded s e k =
+    by-test (λ (a : Answer). a .number ≡ accepts → a .value ≡ value s (e .node)) (eqb (firstOf (refusals s e)) accepts) _ _
+    (λ _ _. load-says s e k) (λ f h. absurd (eqb-false (firstOf (refusals s e)) accepts f h))

@@ -1,10 +1,8 @@
--- What a configuration holds, cell by cell, and a configuration with one cell replaced.
+-- What a configuration holds, cell by cell.
 use mathlib.Core.Bool.{Bool, false}
 use Prim.Native.Nat.{ℕ, _+_, _*_}
-use lib.ListN.{getD, set}
-use Rattle.words.specs.Vocab.{fill}
+use lib.ListN.{getD}
 use Rattle.rules.specs.Codes.{nodes}
-use Rattle.rules.specs.With.{withRights, withEntries, withToProbe, withPending, withNodes, withLinks}
 use Rattle.rules.specs.declared.State.{State}
 use Rattle.rules.specs.declared.Node.{Node}
 use Rattle.rules.specs.declared.Link.{Link}
@@ -92,26 +90,3 @@ down s k = link s k .down
 
 abbrev pub slotE : State → ℕ → ℕ
 slotE s k = link s k .e
-
--- the configuration with one cell replaced
-abbrev pub rightsPut : State → ℕ → ℕ → State
-rightsPut s x r = withRights s (set (s .rights) x r)
-
-abbrev pub entryPut : State → ℕ → ℕ → ℕ → State
-entryPut s x k e = withEntries s (set (s .entries) (cell x k) e)
-
-abbrev pub toProbePut : State → ℕ → ℕ → Bool → State
-toProbePut s x k b = withToProbe s (set (s .«to_probe») (cell x k) b)
-
-abbrev pub pendingPut : State → ℕ → ℕ → Bool → State
-pendingPut s x k b = withPending s (set (s .pending) (cell x k) b)
-
-abbrev pub nodePut : State → ℕ → Node → State
-nodePut s x m = withNodes s (set (s .nodes) x m)
-
-abbrev pub linkPut : State → ℕ → Link → State
-linkPut s k l = withLinks s (set (s .links) k l)
-
--- the row of x in to-probe becomes what the rule says of each child
-abbrev pub toProbeRow : State → ℕ → (ℕ → Bool) → State
-toProbeRow s x rule = withToProbe s (fill rule (x * nodes) nodes (s .«to_probe»))

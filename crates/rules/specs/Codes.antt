@@ -20,7 +20,11 @@ rightsB = 1
 abbrev pub tip : ℕ
 tip = 2
 
--- "None, Branch or Trunk"
+-- how many codes the list has; the same for entries
+abbrev pub levels : ℕ
+levels = 3
+
+-- "None, Branch or Trunk": an entry has the code of the rights that it says, so "entry becomes kept" copies a code
 abbrev pub none : ℕ
 none = 0
 
@@ -74,6 +78,9 @@ letGo = 7
 abbrev pub leaving : ℕ
 leaving = 8
 
+abbrev pub phases : ℕ
+phases = 9
+
 -- "purpose none, load, store or evict"
 abbrev pub noPurpose : ℕ
 noPurpose = 0
@@ -87,6 +94,9 @@ toStore = 2
 abbrev pub toEvict : ℕ
 toEvict = 3
 
+abbrev pub purposes : ℕ
+purposes = 4
+
 -- "idle, or open with cap B or N"
 abbrev pub noCap : ℕ
 noCap = 0
@@ -96,6 +106,10 @@ capB = 1
 
 abbrev pub capN : ℕ
 capN = 2
+
+-- how many codes a cap has, and the slot B with it
+abbrev pub caps : ℕ
+caps = 3
 
 -- an absent requester, an idle release
 abbrev pub noChild : ℕ
@@ -113,6 +127,9 @@ acquireT = 2
 
 abbrev pub acquireU : ℕ
 acquireU = 3
+
+abbrev pub acquires : ℕ
+acquires = 4
 
 -- "B (ProbeB, ProbeN)"
 abbrev pub probeB : ℕ
@@ -134,6 +151,13 @@ release = 3
 abbrev pub releaseData : ℕ
 releaseData = 4
 
+-- how many codes slot C has, and the rights that a ProbeAck may keep
+abbrev pub ups : ℕ
+ups = 5
+
+abbrev pub keeps : ℕ
+keeps = 2
+
 -- "D (GrantT, GrantDataT, GrantDataB, ReleaseAck)"
 abbrev pub grantT : ℕ
 grantT = 1
@@ -147,6 +171,10 @@ grantDataB = 3
 abbrev pub releaseAck : ℕ
 releaseAck = 4
 
+-- how many codes slot D has
+abbrev pub downs : ℕ
+downs = 5
+
 -- "E (GrantAck)"
 abbrev pub grantAck : ℕ
 grantAck = 1
@@ -159,6 +187,9 @@ abbrev pub sole : ℕ
 sole = 1
 
 -- the numbers a caller may get
+abbrev pub accepts : ℕ
+accepts = 0
+
 abbrev pub badTree : ℕ
 badTree = 1
 

@@ -1,114 +1,116 @@
--- Number 2: "Not a configuration", clause by clause of document 01's list. Each clause says when a node, a link or a pair is right.
-use mathlib.Core.Bool.{Bool, not, _&&_, _||_, Bool·beq}
+-- Number 2: "Not a configuration", by what is spoken of: a node, its link, a pair of a node and a possible child, and where a node
+-- stands. Each test says when its subject is right, and has the sentences of document 01's list beside it.
+use mathlib.Core.Bool.{Bool, true, false, not, _&&_, _||_, Bool·beq}
 use Prim.Native.Nat.{ℕ}
 use lib.Dec.{eqb, leb, ltb}
 use Rattle.words.specs.Vocab.{all}
-use Rattle.rules.specs.Codes.{nodes, rightsN, rightsB, tip, none, trunk, idle, clear, give, await, letGo, leaving, noPurpose, toLoad, toStore, toEvict, noCap, capN, noChild, empty, acquireU, probeN, probeAck, probeAckData, releaseData, grantDataT, grantDataB, releaseAck, grantAck}
+use Rattle.rules.specs.Codes.{nodes, rightsN, rightsB, tip, none, trunk, idle, noCap, capN, noChild, empty, acquireU, probeN, releaseData, releaseAck, grantAck}
+use Rattle.rules.specs.Cases.{PerPhase, perPhase, PerPurpose, perPurpose}
 use Rattle.rules.specs.Cells.{parent, rights, entry, toProbe, pending, node, link}
 use Rattle.rules.specs.Tree.{isChild, isLeaf}
+use Rattle.rules.specs.Messages.{carriesUp, carriesDown, isProbeAck}
 use Rattle.rules.specs.declared.State.{State}
 use Rattle.rules.specs.declared.Node.{Node}
 use Rattle.rules.specs.declared.Link.{Link}
 
--- the messages that carry a value
-abbrev pub carriesUp : ℕ → Bool
-carriesUp c = eqb c probeAckData || eqb c releaseData
+-- A node's copy of the line: "a code outside its list", "rights N with dirty set or value not 0, or B with dirty set".
+unfoldable pub copyOk : ℕ → Bool → ℕ → Bool
+copyOk r d v = leb r tip && (not (eqb r rightsN) || (not d && eqb v 0)) && (not (eqb r rightsB) || not d)
 
-abbrev pub carriesDown : ℕ → Bool
-carriesDown d = eqb d grantDataT || eqb d grantDataB
+-- the phases of a load or a store, and of an evict
+unfoldable pub serving : ℕ → Bool
+serving = perPhase record { idle = false; clear = true; ask = true; wait = true; confirm = true; give = true; await = true; letGo = false; leaving = false; outside = false }
 
-abbrev pub isProbeAck : ℕ → Bool
-isProbeAck c = eqb c probeAck || eqb c probeAckData
+unfoldable pub evicting : ℕ → Bool
+evicting = perPhase record { idle = false; clear = true; ask = false; wait = false; confirm = false; give = false; await = false; letGo = true; leaving = true; outside = false }
 
--- "a code outside its list": of a node; an open probe has a cap
-abbrev pub nodeCodes : ℕ → Node → Bool
-nodeCodes r m = leb r tip && leb (m .phase) leaving && leb (m .purpose) toEvict && leb (m .cap) capN && (not (m .probe) || not (eqb (m .cap) noCap))
+-- Its main transaction: "a code outside its list", "Idle with a purpose, or another phase without; evict outside Clear, LetGo, Leaving,
+-- or load/store inside LetGo or Leaving".
+unfoldable pub workOk : ℕ → ℕ → Bool
+workOk ph = perPurpose record { none = eqb ph idle; load = serving ph; store = serving ph; evict = evicting ph; outside = false }
 
--- "a code outside its list": of a link; "kept rights N or B"
-abbrev pub linkCodes : Link → Bool
-linkCodes l =
-    leb (l .a) acquireU && leb (l .b) probeN && leb (l .c) releaseData && leb (l .kept) rightsB && leb (l .d) releaseAck && leb (l .e) grantAck
+-- "Give or Await at a leaf"
+unfoldable pub atLeaf : ℕ → Bool
+atLeaf = perPhase record { idle = true; clear = true; ask = true; wait = true; confirm = true; give = false; await = false; letGo = true; leaving = true; outside = true }
 
--- "an entry, set member .. that isn't a child of that node", and an entry's code
-abbrev pub memberRule : Bool → ℕ → Bool → Bool → Bool
-memberRule child e wanted waited = leb e trunk && (child || (eqb e none && not wanted && not waited))
+unfoldable pub leafOk : Bool → ℕ → Bool
+leafOk leaf ph = not leaf || atLeaf ph
 
--- "an entry not None at rights N; a Trunk entry at rights other than Tip"
-abbrev pub entryRule : ℕ → ℕ → Bool
-entryRule r e = (eqb e none || not (eqb r rightsN)) && (not (eqb e trunk) || eqb r tip)
+-- a load or a store has a requester, at a non-leaf
+unfoldable pub hasRequester : ℕ → Bool
+hasRequester = perPurpose record { none = false; load = true; store = true; evict = false; outside = false }
+
+-- "a requester missing for load/store at a non-leaf, or present elsewhere"
+unfoldable pub requesterOk : Bool → ℕ → ℕ → Bool
+requesterOk leaf pu q = Bool·beq (not (eqb q noChild)) (hasRequester pu && not leaf)
 
 -- "requester or release child that isn't a child of that node"
-abbrev pub childRule : ℕ → Bool → Bool
-childRule q child = eqb q noChild || child
+unfoldable pub childOk : ℕ → Bool → Bool
+childOk q child = eqb q noChild || child
 
--- "a full slot on the root or beyond the last node"
-abbrev pub slotsEmpty : Link → Bool
+-- Its probe transaction: "a code outside its list", "a cap on a closed probe"; an open one has a cap.
+unfoldable pub probeOk : Bool → ℕ → Bool
+probeOk opened c = leb c capN && Bool·beq opened (not (eqb c noCap))
+
+-- All that is asked of the rights r and the fields m of a node, with the tests for its requester and for the child that it notes.
+unfoldable pub nodeOk : Bool → Bool → Bool → ℕ → Node → Bool
+nodeOk leaf asks leaves r m =
+    copyOk r (m .dirty) (m .value) && workOk (m .phase) (m .purpose) && leafOk leaf (m .phase) && requesterOk leaf (m .purpose) (m .requester)
+    && childOk (m .requester) asks && childOk (m .release) leaves && probeOk (m .probe) (m .cap)
+
+-- Slot C with its kept rights and its value: "a code outside its list", "a value in a message without data; kept rights on a message
+-- other than ProbeAck; a nonzero field in an empty slot".
+unfoldable pub upOk : ℕ → ℕ → ℕ → Bool
+upOk c k v = leb c releaseData && leb k rightsB && (isProbeAck c || eqb k 0) && (carriesUp c || eqb v 0)
+
+-- Slot D with its value: the same.
+unfoldable pub downOk : ℕ → ℕ → Bool
+downOk d v = leb d releaseAck && (carriesDown d || eqb v 0)
+
+-- All that is asked of the five slots of a link.
+unfoldable pub linkOk : Link → Bool
+linkOk l = leb (l .a) acquireU && leb (l .b) probeN && upOk (l .c) (l .kept) (l .up) && downOk (l .d) (l .down) && leb (l .e) grantAck
+
+-- "an entry, set member .. that isn't a child of that node", and an entry's code
+unfoldable pub memberOk : Bool → ℕ → Bool → Bool → Bool
+memberOk child e listed waits = leb e trunk && (child || (eqb e none && not listed && not waits))
+
+-- "an entry not None at rights N; a Trunk entry at rights other than Tip"
+unfoldable pub entryOk : ℕ → ℕ → Bool
+entryOk r e = (eqb e none || not (eqb r rightsN)) && (not (eqb e trunk) || eqb r tip)
+
+-- All that is asked of a node with the rights r and a possible child: its entry, and whether it is in to-probe and in pending.
+unfoldable pub pairOk : ℕ → Bool → ℕ → Bool → Bool → Bool
+pairOk r child e listed waits = memberOk child e listed waits && entryOk r e
+
+unfoldable pub slotsEmpty : Link → Bool
 slotsEmpty l = eqb (l .a) empty && eqb (l .b) empty && eqb (l .c) empty && eqb (l .d) empty && eqb (l .e) empty
 
--- "a nonzero field beyond the last node"
-abbrev pub blank : ℕ → Node → Bool
+unfoldable pub blank : ℕ → Node → Bool
 blank r m =
     eqb r 0 && not (m .dirty) && eqb (m .value) 0 && eqb (m .phase) 0 && eqb (m .purpose) 0 && eqb (m .requester) 0 && not (m .probe) && eqb (m .cap) 0 && eqb (m .release) 0
 
--- "a value in a message without data; kept rights on a message other than ProbeAck; a nonzero field in an empty slot"
-abbrev pub messageRule : Link → Bool
-messageRule l = (carriesUp (l .c) || eqb (l .up) 0) && (isProbeAck (l .c) || eqb (l .kept) 0) && (carriesDown (l .d) || eqb (l .down) 0)
+-- Where x stands, with the parent p: "a full slot on the root or beyond the last node; a nonzero parent at the root; a nonzero field
+-- beyond the last node".
+unfoldable pub standsOk : ℕ → ℕ → ℕ → ℕ → Node → Link → Bool
+standsOk n x p r m l = ((ltb 0 x && ltb x n) || (eqb p 0 && slotsEmpty l)) && (ltb x n || blank r m)
 
--- "a cap on a closed probe"
-abbrev pub capRule : Node → Bool
-capRule m = m .probe || eqb (m .cap) noCap
+-- the tests at x, by subject
+abbrev pub nodeAt : State → ℕ → Bool
+nodeAt s x = nodeOk (isLeaf s x) (isChild s x (node s x .requester)) (isChild s x (node s x .release)) (rights s x) (node s x)
 
--- "rights N with dirty set or value not 0, or B with dirty set"
-abbrev pub rightsRule : ℕ → Node → Bool
-rightsRule r m = (not (eqb r rightsN) || (not (m .dirty) && eqb (m .value) 0)) && (not (eqb r rightsB) || not (m .dirty))
+abbrev pub pairAt : State → ℕ → ℕ → Bool
+pairAt s x k = pairOk (rights s x) (isChild s x k) (entry s x k) (toProbe s x k) (pending s x k)
 
--- "Idle with a purpose, or another phase without; evict outside Clear, LetGo, Leaving, or load/store inside LetGo or Leaving"
-abbrev pub phaseRule : ℕ → ℕ → Bool
-phaseRule ph pu =
-    Bool·beq (eqb ph idle) (eqb pu noPurpose) && (not (eqb pu toEvict) || eqb ph clear || eqb ph letGo || eqb ph leaving)
-    && (not (eqb pu toLoad || eqb pu toStore) || not (eqb ph letGo || eqb ph leaving))
+abbrev pub rowAt : State → ℕ → Bool
+rowAt s x = all (pairAt s x) nodes
 
--- "Give or Await at a leaf; a requester missing for load/store at a non-leaf, or present elsewhere"
-abbrev pub leafRule : Bool → Node → Bool
-leafRule leaf m =
-    (not leaf || not (eqb (m .phase) give || eqb (m .phase) await))
-    && Bool·beq (not (eqb (m .requester) noChild)) ((eqb (m .purpose) toLoad || eqb (m .purpose) toStore) && not leaf)
+abbrev pub standsAt : State → ℕ → Bool
+standsAt s x = standsOk (s .count) x (parent s x) (rights s x) (node s x) (link s x)
 
--- what number 2 asks of a node's own fields, wherever it stands
-unfoldable pub nodeRule : ℕ → Node → Bool
-nodeRule r m = nodeCodes r m && capRule m && rightsRule r m && phaseRule (m .phase) (m .purpose)
-
--- what it asks of a link's own fields
-unfoldable pub linkRule : Link → Bool
-linkRule l = linkCodes l && messageRule l
-
--- of a node and a possible child
-unfoldable pub pairRule : ℕ → Bool → ℕ → Bool → Bool → Bool
-pairRule r child e wanted waited = memberRule child e wanted waited && entryRule r e
-
-abbrev pub pairOk : State → ℕ → ℕ → Bool
-pairOk s x k = pairRule (rights s x) (isChild s x k) (entry s x k) (toProbe s x k) (pending s x k)
-
-unfoldable pub rowOk : State → ℕ → Bool
-rowOk s x = all (pairOk s x) nodes
-
--- "a full slot on the root or beyond the last node; a nonzero parent at the root; a nonzero field beyond the last node"
-unfoldable pub standsRule : ℕ → ℕ → ℕ → ℕ → Node → Link → Bool
-standsRule n x p r m l = ((ltb 0 x && ltb x n) || (eqb p 0 && slotsEmpty l)) && (ltb x n || blank r m)
-
-abbrev pub standsOk : State → ℕ → Bool
-standsOk s x = standsRule (s .count) x (parent s x) (rights s x) (node s x) (link s x)
-
--- the children that a node's transactions name, and what a leaf may not do
-unfoldable pub serves : Bool → Bool → Bool → Node → Bool
-serves leaf asks leaves m = childRule (m .requester) asks && childRule (m .release) leaves && leafRule leaf m
-
-abbrev pub servesOk : State → ℕ → Bool
-servesOk s x = serves (isLeaf s x) (isChild s x (node s x .requester)) (isChild s x (node s x .release)) (node s x)
-
-unfoldable pub nodeOk : State → ℕ → Bool
-nodeOk s x = nodeRule (rights s x) (node s x) && linkRule (link s x) && standsOk s x && servesOk s x && rowOk s x
+unfoldable pub rightAt : State → ℕ → Bool
+rightAt s x = nodeAt s x && linkOk (link s x) && standsAt s x && rowAt s x
 
 -- no clause of the list is broken
 unfoldable pub configurationOk : State → Bool
-configurationOk s = all (nodeOk s) nodes
+configurationOk s = all (rightAt s) nodes

@@ -57,7 +57,3 @@ kindSendReleaseAck = 18
 
 abbrev pub kindTakeReleaseAck : ℕ
 kindTakeReleaseAck = 19
-
--- the kinds are 1 to this
-abbrev pub lastKind : ℕ
-lastKind = 19

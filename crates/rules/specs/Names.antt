@@ -35,8 +35,11 @@ abbrev pub noOtherEntries : State → ℕ → ℕ → Bool
 noOtherEntries s x q = othersNoneIn (s .entries) x q
 
 -- "both sets empty"
+abbrev pub setsEmptyIn : List Bool → List Bool → ℕ → Bool
+setsEmptyIn listed waits x = not (memberIn listed x) && not (memberIn waits x)
+
 abbrev pub setsEmpty : State → ℕ → Bool
-setsEmpty s x = not (memberIn (s .«to_probe») x) && not (memberIn (s .pending) x)
+setsEmpty s x = setsEmptyIn (s .«to_probe») (s .pending) x
 
 -- "Name of a node: its rights, except that Tip is called T with any Trunk entry, else TB with any Branch entry, else TT."
 unfoldable pub nameOf : ℕ → Bool → Bool → ℕ
@@ -44,11 +47,11 @@ nameOf r trunks branches =
     choose (eqb r tip) (choose trunks nameT (choose branches nameTB nameTT)) (choose (eqb r rightsB) nameB nameN)
 
 -- the name of x by the rights and the entries of all nodes
-abbrev pub nameIn : List ℕ → List ℕ → ℕ → ℕ
-nameIn rs es x = nameOf (getD rs x 0) (someIn es x trunk) (someIn es x branch)
+abbrev pub nameBy : List ℕ → List ℕ → ℕ → ℕ
+nameBy rs es x = nameOf (getD rs x 0) (someIn es x trunk) (someIn es x branch)
 
 abbrev pub named : State → ℕ → ℕ
-named s x = nameIn (s .rights) (s .entries) x
+named s x = nameBy (s .rights) (s .entries) x
 
 -- "Readable means named B, TT or TB."
 abbrev pub readableName : ℕ → Bool

@@ -1,33 +1,28 @@
--- Settle, and what the rows say of transactions.
-use mathlib.Core.Bool.{Bool, not, _&&_, _||_}
-use Prim.Native.Nat.{ℕ}
+-- Settle, and which entries are probed for.
+use mathlib.Core.Bool.{Bool, true, false, not, _&&_, _||_}
+use mathlib.Core.List.{List}
+use Prim.Native.Nat.{ℕ, _*_}
+use lib.ListN.{getD}
 use lib.Dec.{eqb}
-use Rattle.words.specs.Vocab.{choose}
-use Rattle.rules.specs.Codes.{rightsN, tip, idle, clear, ask, give, letGo, noPurpose, toLoad, toStore, toEvict, noChild}
-use Rattle.rules.specs.With.{withPhase, withPurpose, withRequester}
-use Rattle.rules.specs.Cells.{rights, node, phase, purpose, nodePut}
-use Rattle.rules.specs.Names.{setsEmpty}
-use Rattle.rules.specs.declared.State.{State}
+use Rattle.words.specs.Vocab.{fill, choose}
+use Rattle.rules.specs.Codes.{nodes, rightsN, tip, none, trunk, nameT, clear, ask, give, letGo}
+use Rattle.rules.specs.Cases.{PerPurpose, perPurpose, PerCap, perCap}
+use Rattle.rules.specs.Cells.{cell}
 use Rattle.rules.specs.declared.Node.{Node}
+use Rattle.rules.specs.declared.kinds.Settles.{Settles}
+use Rattle.rules.specs.declared.kinds.Settles.the-variants.{Never, Again, Anew}
 
--- "all three transactions idle"
-abbrev pub allIdle : Node → Bool
-allIdle m = eqb (m .phase) idle && not (m .probe) && eqb (m .release) noChild
-
--- "Idle clears purpose and requester."
-abbrev pub idled : Node → Node
-idled m = withRequester (withPurpose (withPhase m idle) noPurpose) noChild
-
--- "load: Give unless rights are N, then Ask; store: Give at Tip, else Ask; evict: LetGo"
+-- "load: Give unless rights are N, then Ask; store: Give at Tip, else Ask; evict: LetGo". Of no purpose document 01 says nothing.
 unfoldable pub nextPhase : ℕ → ℕ → ℕ
-nextPhase pu r =
-    choose (eqb pu toLoad) (choose (eqb r rightsN) ask give) (choose (eqb pu toStore) (choose (eqb r tip) give ask) (choose (eqb pu toEvict) letGo clear))
+nextPhase pu r = perPurpose record { none = clear; load = choose (eqb r rightsN) ask give; store = choose (eqb r tip) give ask; evict = letGo; outside = clear } pu
 
 -- "if both sets are empty, and the purpose is new or main was in Clear, the phase becomes: ..
 -- A new purpose with members in to-probe is Clear."
 unfoldable pub phaseAfter : Bool → Bool → ℕ → ℕ → ℕ → ℕ
 phaseAfter bothEmpty new ph pu r = choose (bothEmpty && (new || eqb ph clear)) (nextPhase pu r) (choose new clear ph)
 
--- settle at x
-abbrev pub settled : State → ℕ → Bool → State
-settled s x new = nodePut s x (withPhase (node s x) (phaseAfter (setsEmpty s x) new (phase s x) (purpose s x) (rights s x)))
+-- the phase of the fields m, with the rights r, once the kind has settled as its row says
+unfoldable pub settledPhase : Settles → Bool → Node → ℕ → ℕ
+settledPhase Never bothEmpty m r = m .phase
+settledPhase Again bothEmpty m r = phaseAfter bothEmpty false (m .phase) (m .purpose) r
+settledPhase Anew bothEmpty m r = phaseAfter bothEmpty true (m .phase) (m .purpose) r

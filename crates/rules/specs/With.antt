@@ -1,34 +1,45 @@
 -- Printed by tools/print-with from src/lib.rt. A record with one field replaced: antt has no record update.
 use mathlib.Core.Bool.{Bool}
-use mathlib.Core.List.{List}
 use Prim.Native.Nat.{ℕ}
-use Rattle.rules.specs.declared.State.{State}
+use Rattle.rules.specs.declared.Scene.{Scene}
 use Rattle.rules.specs.declared.Node.{Node}
 use Rattle.rules.specs.declared.Link.{Link}
 
-abbrev pub withCount : State → ℕ → State
-withCount r v = record { count = v; parents = r .parents; rights = r .rights; entries = r .entries; «to_probe» = r .«to_probe»; pending = r .pending; nodes = r .nodes; links = r .links }
+abbrev pub withRights : Scene → ℕ → Scene
+withRights r v = record { rights = v; node = r .node; link = r .link; entry = r .entry; «to_probe» = r .«to_probe»; pending = r .pending; leaf = r .leaf; still = r .still; bare = r .bare; trunk = r .trunk; branch = r .branch; alone = r .alone }
 
-abbrev pub withParents : State → List ℕ → State
-withParents r v = record { count = r .count; parents = v; rights = r .rights; entries = r .entries; «to_probe» = r .«to_probe»; pending = r .pending; nodes = r .nodes; links = r .links }
+abbrev pub withNode : Scene → Node → Scene
+withNode r v = record { rights = r .rights; node = v; link = r .link; entry = r .entry; «to_probe» = r .«to_probe»; pending = r .pending; leaf = r .leaf; still = r .still; bare = r .bare; trunk = r .trunk; branch = r .branch; alone = r .alone }
 
-abbrev pub withRights : State → List ℕ → State
-withRights r v = record { count = r .count; parents = r .parents; rights = v; entries = r .entries; «to_probe» = r .«to_probe»; pending = r .pending; nodes = r .nodes; links = r .links }
+abbrev pub withLink : Scene → Link → Scene
+withLink r v = record { rights = r .rights; node = r .node; link = v; entry = r .entry; «to_probe» = r .«to_probe»; pending = r .pending; leaf = r .leaf; still = r .still; bare = r .bare; trunk = r .trunk; branch = r .branch; alone = r .alone }
 
-abbrev pub withEntries : State → List ℕ → State
-withEntries r v = record { count = r .count; parents = r .parents; rights = r .rights; entries = v; «to_probe» = r .«to_probe»; pending = r .pending; nodes = r .nodes; links = r .links }
+abbrev pub withEntry : Scene → ℕ → Scene
+withEntry r v = record { rights = r .rights; node = r .node; link = r .link; entry = v; «to_probe» = r .«to_probe»; pending = r .pending; leaf = r .leaf; still = r .still; bare = r .bare; trunk = r .trunk; branch = r .branch; alone = r .alone }
 
-abbrev pub withToProbe : State → List Bool → State
-withToProbe r v = record { count = r .count; parents = r .parents; rights = r .rights; entries = r .entries; «to_probe» = v; pending = r .pending; nodes = r .nodes; links = r .links }
+abbrev pub withToProbe : Scene → Bool → Scene
+withToProbe r v = record { rights = r .rights; node = r .node; link = r .link; entry = r .entry; «to_probe» = v; pending = r .pending; leaf = r .leaf; still = r .still; bare = r .bare; trunk = r .trunk; branch = r .branch; alone = r .alone }
 
-abbrev pub withPending : State → List Bool → State
-withPending r v = record { count = r .count; parents = r .parents; rights = r .rights; entries = r .entries; «to_probe» = r .«to_probe»; pending = v; nodes = r .nodes; links = r .links }
+abbrev pub withPending : Scene → Bool → Scene
+withPending r v = record { rights = r .rights; node = r .node; link = r .link; entry = r .entry; «to_probe» = r .«to_probe»; pending = v; leaf = r .leaf; still = r .still; bare = r .bare; trunk = r .trunk; branch = r .branch; alone = r .alone }
 
-abbrev pub withNodes : State → List Node → State
-withNodes r v = record { count = r .count; parents = r .parents; rights = r .rights; entries = r .entries; «to_probe» = r .«to_probe»; pending = r .pending; nodes = v; links = r .links }
+abbrev pub withLeaf : Scene → Bool → Scene
+withLeaf r v = record { rights = r .rights; node = r .node; link = r .link; entry = r .entry; «to_probe» = r .«to_probe»; pending = r .pending; leaf = v; still = r .still; bare = r .bare; trunk = r .trunk; branch = r .branch; alone = r .alone }
 
-abbrev pub withLinks : State → List Link → State
-withLinks r v = record { count = r .count; parents = r .parents; rights = r .rights; entries = r .entries; «to_probe» = r .«to_probe»; pending = r .pending; nodes = r .nodes; links = v }
+abbrev pub withStill : Scene → Bool → Scene
+withStill r v = record { rights = r .rights; node = r .node; link = r .link; entry = r .entry; «to_probe» = r .«to_probe»; pending = r .pending; leaf = r .leaf; still = v; bare = r .bare; trunk = r .trunk; branch = r .branch; alone = r .alone }
+
+abbrev pub withBare : Scene → Bool → Scene
+withBare r v = record { rights = r .rights; node = r .node; link = r .link; entry = r .entry; «to_probe» = r .«to_probe»; pending = r .pending; leaf = r .leaf; still = r .still; bare = v; trunk = r .trunk; branch = r .branch; alone = r .alone }
+
+abbrev pub withTrunk : Scene → Bool → Scene
+withTrunk r v = record { rights = r .rights; node = r .node; link = r .link; entry = r .entry; «to_probe» = r .«to_probe»; pending = r .pending; leaf = r .leaf; still = r .still; bare = r .bare; trunk = v; branch = r .branch; alone = r .alone }
+
+abbrev pub withBranch : Scene → Bool → Scene
+withBranch r v = record { rights = r .rights; node = r .node; link = r .link; entry = r .entry; «to_probe» = r .«to_probe»; pending = r .pending; leaf = r .leaf; still = r .still; bare = r .bare; trunk = r .trunk; branch = v; alone = r .alone }
+
+abbrev pub withAlone : Scene → Bool → Scene
+withAlone r v = record { rights = r .rights; node = r .node; link = r .link; entry = r .entry; «to_probe» = r .«to_probe»; pending = r .pending; leaf = r .leaf; still = r .still; bare = r .bare; trunk = r .trunk; branch = r .branch; alone = v }
 
 abbrev pub withDirty : Node → Bool → Node
 withDirty r v = record { dirty = v; value = r .value; phase = r .phase; purpose = r .purpose; requester = r .requester; probe = r .probe; cap = r .cap; release = r .release }

@@ -1,6 +1,7 @@
 // What a configuration, an event and an answer are (document 01, "What a configuration holds", "Events", "Numbers a caller
 // may get"). No function: the rules stand in specs/.
 pub mod codes;
+pub mod kinds;
 
 // A node's dirty flag and value, its main transaction, its probe transaction and its release transaction.
 pub struct Node {
@@ -44,6 +45,24 @@ impl State {
     pub const NODES: usize = 16;
 
     pub const CELLS: usize = 256;
+}
+
+// What a row of the event table sees, and all that it may change: a node's rights and fields; the link that it acts on and, where
+// that is a child's, the entry and the set members for that child. The rest tells of the node's row and is only read: it is a leaf;
+// both sets are empty; all entries are None; some entry is Trunk, or Branch; all entries but that child's are None.
+pub struct Scene {
+    pub rights: u8,
+    pub node: Node,
+    pub link: Link,
+    pub entry: u8,
+    pub to_probe: bool,
+    pub pending: bool,
+    pub leaf: bool,
+    pub still: bool,
+    pub bare: bool,
+    pub trunk: bool,
+    pub branch: bool,
+    pub alone: bool,
 }
 
 // "An event is kind, node, other, value."

@@ -1,20 +1,21 @@
 -- A run of the code is coherent, by the promises of the code.
 use mathlib.Core.Path.{_≡_, sym, _∙_, ap, subst}
 use Prim.Native.Nat.{ℕ}
+use Rattle.rules.specs.Codes.{accepts}
 use Rattle.rules.specs.Step.{resetOf, stepOf, onwardOf}
 use Rattle.rules.specs.declared.State.{State}
 use Rattle.rules.specs.declared.Event.{Event}
 use Rattle.laws.proofs.Onward.{step-is-onward}
 use Rattle.coherence.specs.Reached.{Reached, start, next, lastOf}
 use Rattle.coherence.specs.Coherent.{Coherent}
-use Rattle.coherence.proofs.Whole.Theorem.{coherent, reached-configuration}
+use Rattle.coherence.proofs.Theorem.Theorem.{coherent, reached-configuration}
 use Rattle.model.specs.Answered.{answered}
 use Rattle.model.specs.declared.Config.{Config}
 use Rattle.model.specs.declared.Answer.{Answer}
 use Rattle.runs.specs.Run.{Run, by-reset, by-step, by-onward}
 
 -- a step of the code is a step of the definitions
-stepped : (s : State) (v : ℕ) (e : Event) (a : Answer) → Reached s v → a ≡ answered (stepOf s e) → a .number ≡ 0 → Reached (a .config .state) (lastOf e v)
+stepped : (s : State) (v : ℕ) (e : Event) (a : Answer) → Reached s v → a ≡ answered (stepOf s e) → a .number ≡ accepts → Reached (a .config .state) (lastOf e v)
 stepped s v e a r p h =
     subst (λ (b : Answer). Reached (b .config .state) (lastOf e v)) (sym p) (next s v e r (sym (ap (λ (b : Answer). b .number) p) ∙ h))
 

@@ -3,6 +3,7 @@
 use mathlib.Core.Path.{_≡_}
 use mathlib.Core.List.{List}
 use Prim.Native.Nat.{ℕ}
+use Rattle.rules.specs.Codes.{accepts}
 use Rattle.rules.specs.Step.{resetOf, stepOf, onwardOf}
 use Rattle.rules.specs.declared.Event.{Event}
 use Rattle.coherence.specs.Reached.{lastOf}
@@ -12,6 +13,6 @@ use Rattle.model.specs.declared.Answer.{Answer}
 
 -- c is reached by a run of the code, and v is the value of its last accepted store, or the first value
 pub data Run : Config → ℕ → Type 0 where
-  by-reset : (n : ℕ) (ps : List ℕ) (v : ℕ) (a : Answer) → a ≡ answered (resetOf n ps v) → a .number ≡ 0 → Run (a .config) v
-  by-step : (c : Config) (v : ℕ) (e : Event) (a : Answer) → Run c v → a ≡ answered (stepOf (c .state) e) → a .number ≡ 0 → Run (a .config) (lastOf e v)
-  by-onward : (c : Config) (v : ℕ) (e : Event) (a : Answer) → Run c v → a ≡ answered (onwardOf (c .state) e) → a .number ≡ 0 → Run (a .config) (lastOf e v)
+  by-reset : (n : ℕ) (ps : List ℕ) (v : ℕ) (a : Answer) → a ≡ answered (resetOf n ps v) → a .number ≡ accepts → Run (a .config) v
+  by-step : (c : Config) (v : ℕ) (e : Event) (a : Answer) → Run c v → a ≡ answered (stepOf (c .state) e) → a .number ≡ accepts → Run (a .config) (lastOf e v)
+  by-onward : (c : Config) (v : ℕ) (e : Event) (a : Answer) → Run c v → a ≡ answered (onwardOf (c .state) e) → a .number ≡ accepts → Run (a .config) (lastOf e v)

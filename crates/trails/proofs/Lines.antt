@@ -5,7 +5,7 @@ use Prim.Native.Nat.{ℕ, _+_, _^_, _<_, _≤_}
 use native.Mathlib.Numerals.{add-one}
 use native.Mathlib.Omega.{arith}
 use lib.ListN.{length, length-append, List·getD-eq-default}
-use Rattle.rules.specs.Names.{nameIn}
+use Rattle.rules.specs.Names.{nameBy}
 use Rattle.rules.specs.declared.State.{State}
 use Rattle.trails.specs.Text.{Wrote, space, newline, decimal, field, line, nameText, nameTexts, names}
 use Rattle.trails.proofs.Writing.{wrote-then, wrote-none}
@@ -36,7 +36,7 @@ module _ {a b c : List ℕ} {at p r : ℕ} where
   field-wrote n after e f g = rw e at (wrote-then f g)
 
   -- a name more
-  pub names-more : (rs es : List ℕ) (x : ℕ) {v : ℕ} → Wrote a at (names rs es x) b p → v ≡ nameIn rs es x → Wrote b p (nameText v) c r → Wrote a at (names rs es (x + 1)) c r
+  pub names-more : (rs es : List ℕ) (x : ℕ) {v : ℕ} → Wrote a at (names rs es x) b p → v ≡ nameBy rs es x → Wrote b p (nameText v) c r → Wrote a at (names rs es (x + 1)) c r
   unfolding names
   names-more rs es x f e g = rw (add-one, ← e) (wrote-then f g)
 

@@ -8,7 +8,7 @@ use lib.ListN.{getD, length}
 use lib.Seq.{sets}
 use lib.Dec.{ltb}
 use Rattle.words.specs.Vocab.{choose}
-use Rattle.rules.specs.Names.{nameIn}
+use Rattle.rules.specs.Names.{nameBy}
 use Rattle.rules.specs.declared.State.{State}
 
 -- the bytes of a text in ASCII
@@ -49,7 +49,7 @@ nameText n = getD nameTexts n none
 -- the names of the first n nodes, in order, by the rights and the entries of all nodes
 unfoldable pub names : List ℕ → List ℕ → ℕ → List ℕ
 names rs es zero = none
-names rs es (suc n) = names rs es n ++ nameText (nameIn rs es n)
+names rs es (suc n) = names rs es n ++ nameText (nameBy rs es n)
 
 -- "`end` and the node names in order"
 unfoldable pub endIn : ℕ → List ℕ → List ℕ → List ℕ

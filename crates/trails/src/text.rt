@@ -92,7 +92,7 @@ fn put_names<'a>(
 {
     let mut p = at;
     for x in 0..n {
-        p = put_name(out, p, engine::name_in(rights, entries, x));
+        p = put_name(out, p, engine::name_by(rights, entries, x));
     }
     p
 }

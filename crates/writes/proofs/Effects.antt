@@ -1,293 +1,244 @@
--- What each kind writes.
-use mathlib.Core.Path.{refl}
-use mathlib.Core.Bool.{Bool, true, false}
+-- What each kind writes, kind by kind: the law of Writes at the rows of the table.
+use mathlib.Core.Path.{_≡_, refl}
+use mathlib.Core.Bool.{true, false}
 use Prim.Native.Nat.{ℕ, _<_}
-use native.Mathlib.Omega.{arith}
-use lib.ListN.{length}
-use lib.Dec.{eqb}
 use Rattle.words.specs.Vocab.{choose}
-use Rattle.rules.specs.Codes.{nodes, rightsN, none, ask, wait, await, confirm, toEvict, noChild, empty, grantAck, releaseAck}
+use Rattle.rules.specs.Codes.{nodes, rightsN, none, ask, wait, await, confirm, leaving, toLoad, toStore, toEvict, noCap, noChild, empty, grantAck, releaseAck}
+use Rattle.rules.specs.Kinds.{kindStore, kindLoadMiss, kindStoreMiss, kindEvict, kindSendAcquire, kindTakeAcquire, kindSendProbe, kindTakeProbe, kindSendProbeAck, kindTakeProbeAck, kindTakeGrant, kindSendGrantAck, kindSendGrant, kindTakeGrantAck, kindSendRelease, kindTakeRelease, kindSendReleaseAck, kindTakeReleaseAck}
 use Rattle.rules.specs.With.{withDirty, withValue, withPhase, withPurpose, withRequester, withProbe, withCap, withRelease, withA, withB, withE}
-use Rattle.rules.specs.Cells.{rights, entry, toProbe, pending, node, link, dirty, value, phase, purpose, requester, probing, cap, noted, slotA, slotB, slotD, down, kept}
+use Rattle.rules.specs.Cells.{rights, entry, toProbe, pending, node, link, dirty, value, purpose, probing, cap, slotA, slotB, slotD, down, kept}
 use Rattle.rules.specs.Tree.{isLeaf}
-use Rattle.rules.specs.Names.{named, setsEmpty}
-use Rattle.rules.specs.Settle.{idled, phaseAfter}
-use Rattle.rules.specs.Local.{stored, held, storeTo, missTo, evictTo}
-use Rattle.rules.specs.Acquire.{acquireFor, sendAcquireTo, purposeFor, probedFor, takeAcquireTo}
-use Rattle.rules.specs.Probe.{capFor, sendProbeTo, probedBy, takeProbeTo, fallen, carried, probeAckFor, acked, filledC, sendProbeAckTo, dataTaken, emptiedC, takeProbeAckTo}
-use Rattle.rules.specs.Grant.{grantedRights, installed, filledD, takeGrantTo, confirmed, sendGrantAckTo, grantFor, entryFor, grantValue, sendGrantTo, takeGrantAckTo}
-use Rattle.rules.specs.Release.{releaseFor, left, sendReleaseTo, takeReleaseTo, sendReleaseAckTo, takeReleaseAckTo}
+use Rattle.rules.specs.Names.{named}
+use Rattle.rules.specs.Messages.{grantedRights, entryFor}
+use Rattle.rules.specs.Scenes.{sceneOf, stored, idled, valueAt, dirtyAt, dataTaken, installed, filledC, filledD}
+use Rattle.rules.specs.Settle.{settledPhase}
+use Rattle.rules.specs.Local.{held, storeDoes, loadMissDoes, storeMissDoes, evictDoes}
+use Rattle.rules.specs.Acquire.{acquireFor, sendAcquireDoes, purposeFor, probedFor, takeAcquireDoes}
+use Rattle.rules.specs.Probe.{capFor, sendProbeDoes, probedBy, takeProbeDoes, fallen, carried, probeAckFor, sendProbeAckDoes, takeProbeAckDoes}
+use Rattle.rules.specs.Grant.{takeGrantDoes, confirmed, sendGrantAckDoes, grantFor, grantValue, sendGrantDoes, takeGrantAckDoes}
+use Rattle.rules.specs.Release.{releaseFor, sendReleaseDoes, takeReleaseDoes, sendReleaseAckDoes, takeReleaseAckDoes}
+use Rattle.rules.specs.Table.{numbered, kindOf}
+use Rattle.rules.specs.Step.{doneBy}
 use Rattle.rules.specs.declared.State.{State}
 use Rattle.rules.specs.declared.Node.{Node}
-use Rattle.writes.proofs.Put.{same, put, put-again, row-same, row-put, row-fill}
-use Rattle.writes.proofs.Writes.{Sized, Writes}
+use Rattle.rules.specs.declared.Event.{Event}
+use Rattle.writes.proofs.Writes.{Sized, Writes, with-at, settledBy, effect-writes, with-same}
 
--- the row with v at k
-abbrev pub with-at : {A : Type 0} → (ℕ → A) → ℕ → A → ℕ → A
-with-at f k v j = choose (eqb j k) v (f j)
+-- the configuration after the kind n, which acts on the link of j
+abbrev pub after : ℕ → State → Event → ℕ → State
+after n s e j = doneBy (kindOf n) s e j (sceneOf s (e .node) j)
 
--- the fields m after settle in the configuration t
-abbrev pub settledNode : State → ℕ → Bool → Node → Node
-settledNode t x new m = withPhase m (phaseAfter (setsEmpty t x) new (m .phase) (m .purpose) (rights t x))
+-- the fields of a node that has sent its ProbeAck and keeps the rights r, and of one that has sent its Release
+abbrev pub acked : ℕ → Node → Node
+acked r m = withCap (withProbe (withDirty (withValue m (valueAt r (m .value))) false) false) noCap
 
-module _ (s : State) (z : Sized s) (x : ℕ) (hx : x < nodes) where
-  nx : x < length (s .nodes)
-  nx = omega (arith, z .nodes)
+abbrev pub left : Node → Node
+left m = withPhase (withDirty (withValue m 0) false) leaving
 
-  rx : x < length (s .rights)
-  rx = omega (arith, z .rights)
+-- what t is after the kind, by the event e at x
 
-  at-link : (k : ℕ) → k < nodes → k < length (s .links)
-  at-link k h = omega (arith, z .links)
+-- 2
+abbrev pub StoreWrites : State → Event → ℕ → State → Type 0
+StoreWrites s e x t = Writes s t x x (rights s x) (stored (e .value) (node s x)) (link s x) (entry s x) (toProbe s x) (pending s x)
+
+-- 3
+abbrev pub LoadMissWrites : State → Event → ℕ → State → Type 0
+LoadMissWrites s e x t = Writes s t x x (rights s x) (withPurpose (withPhase (node s x) ask) toLoad) (link s x) (entry s x) (toProbe s x) (pending s x)
+
+-- 4
+abbrev pub StoreMissWrites : State → Event → ℕ → State → Type 0
+StoreMissWrites s e x t = Writes s t x x (rights s x) (withPurpose (withPhase (node s x) ask) toStore) (link s x) (entry s x) (toProbe s x) (pending s x)
+
+-- 5
+abbrev pub EvictWrites : State → Event → ℕ → State → Type 0
+EvictWrites s e x t = Writes s t x x (rights s x) (settledBy true (λ k. held (entry s x k)) (pending s x) (rights s x) (withPurpose (node s x) toEvict)) (link s x) (entry s x) (λ k. held (entry s x k)) (pending s x)
+
+-- 6
+abbrev pub SendAcquireWrites : State → Event → ℕ → State → Type 0
+SendAcquireWrites s e x t = Writes s t x x (rights s x) (withPhase (node s x) wait) (withA (link s x) (acquireFor (purpose s x) (rights s x))) (entry s x) (toProbe s x) (pending s x)
+
+-- 9
+abbrev pub TakeProbeWrites : State → Event → ℕ → State → Type 0
+TakeProbeWrites s e x t = Writes s t x x (rights s x) (withCap (withProbe (node s x) true) (slotB s x)) (withB (link s x) empty) (entry s x) (λ k. probedBy (slotB s x) (entry s x k)) (pending s x)
+
+-- 10
+abbrev pub SendProbeAckWrites : State → Event → ℕ → State → Type 0
+SendProbeAckWrites s e x t = Writes s t x x (fallen (cap s x) (rights s x)) (acked (fallen (cap s x) (rights s x)) (node s x)) (filledC (probeAckFor (dirty s x)) (fallen (cap s x) (rights s x)) (carried (dirty s x) (value s x)) (link s x)) (entry s x) (toProbe s x) (pending s x)
+
+-- 12
+abbrev pub TakeGrantWrites : State → Event → ℕ → State → Type 0
+TakeGrantWrites s e x t = Writes s t x x (grantedRights (slotD s x)) (withPhase (withDirty (withValue (node s x) (installed (slotD s x) (down s x) (value s x))) false) confirm) (filledD empty 0 (link s x)) (entry s x) (toProbe s x) (pending s x)
+
+-- 13
+abbrev pub SendGrantAckWrites : State → Event → ℕ → State → Type 0
+SendGrantAckWrites s e x t = Writes s t x x (rights s x) (confirmed (isLeaf s x) (node s x)) (withE (link s x) grantAck) (entry s x) (toProbe s x) (pending s x)
+
+-- 16
+abbrev pub SendReleaseWrites : State → Event → ℕ → State → Type 0
+SendReleaseWrites s e x t = Writes s t x x rightsN (left (node s x)) (filledC (releaseFor (dirty s x)) 0 (carried (dirty s x) (value s x)) (link s x)) (entry s x) (toProbe s x) (pending s x)
+
+-- 19
+abbrev pub TakeReleaseAckWrites : State → Event → ℕ → State → Type 0
+TakeReleaseAckWrites s e x t = Writes s t x x (rights s x) (idled (node s x)) (filledD empty 0 (link s x)) (entry s x) (toProbe s x) (pending s x)
+
+-- 7, on the link of k
+abbrev pub TakeAcquireWrites : State → Event → ℕ → ℕ → State → Type 0
+TakeAcquireWrites s e x k t =
+    Writes s t x k (rights s x) (settledBy true (λ j. probedFor (purposeFor (slotA s k)) (named s x) (e .other) (entry s x j) j) (pending s x) (rights s x) (withRequester (withPurpose (node s x) (purposeFor (slotA s k))) (e .other)))
+    (withA (link s k) empty) (entry s x) (λ j. probedFor (purposeFor (slotA s k)) (named s x) (e .other) (entry s x j) j) (pending s x)
+
+-- 8, on the link of k
+abbrev pub SendProbeWrites : State → Event → ℕ → ℕ → State → Type 0
+SendProbeWrites s e x k t =
+    Writes s t x k (rights s x) (node s x)
+    (withB (link s k) (capFor (probing s x) (cap s x) (purpose s x))) (entry s x) (with-at (toProbe s x) k false) (with-at (pending s x) k true)
+
+-- 11, on the link of k
+abbrev pub TakeProbeAckWrites : State → Event → ℕ → ℕ → State → Type 0
+TakeProbeAckWrites s e x k t =
+    Writes s t x k (rights s x) (settledBy false (toProbe s x) (with-at (pending s x) k false) (rights s x) (dataTaken (link s k) (node s x)))
+    (filledC empty 0 0 (link s k)) (with-at (entry s x) k (kept s k)) (toProbe s x) (with-at (pending s x) k false)
+
+-- 14, on the link of k
+abbrev pub SendGrantWrites : State → Event → ℕ → ℕ → State → Type 0
+SendGrantWrites s e x k t =
+    Writes s t x k (rights s x) (withPhase (node s x) await)
+    (filledD (grantFor (purpose s x) (e .other) (entry s x k)) (grantValue (grantFor (purpose s x) (e .other) (entry s x k)) (value s x)) (link s k)) (with-at (entry s x) k (entryFor (grantFor (purpose s x) (e .other) (entry s x k)))) (toProbe s x) (pending s x)
+
+-- 15, on the link of k
+abbrev pub TakeGrantAckWrites : State → Event → ℕ → ℕ → State → Type 0
+TakeGrantAckWrites s e x k t =
+    Writes s t x k (rights s x) (idled (node s x))
+    (withE (link s k) empty) (entry s x) (toProbe s x) (pending s x)
+
+-- 17, on the link of k
+abbrev pub TakeReleaseWrites : State → Event → ℕ → ℕ → State → Type 0
+TakeReleaseWrites s e x k t =
+    Writes s t x k (rights s x) (settledBy false (with-at (toProbe s x) k false) (pending s x) (rights s x) (withRelease (dataTaken (link s k) (node s x)) (e .other)))
+    (filledC empty 0 0 (link s k)) (with-at (entry s x) k none) (with-at (toProbe s x) k false) (pending s x)
+
+-- 18, on the link of k
+abbrev pub SendReleaseAckWrites : State → Event → ℕ → ℕ → State → Type 0
+SendReleaseAckWrites s e x k t =
+    Writes s t x k (rights s x) (withRelease (node s x) noChild)
+    (filledD releaseAck 0 (link s k)) (entry s x) (toProbe s x) (pending s x)
+
+module _ (s : State) (z : Sized s) (e : Event) (hx : e .node < nodes) where
+  same-entries : (k i : ℕ) → i < nodes → with-at (entry s (e .node)) k (entry s (e .node) k) i ≡ entry s (e .node) i
+  same-entries k i _ = with-same (entry s (e .node)) k i
+
+  same-listed : (k i : ℕ) → i < nodes → with-at (toProbe s (e .node)) k (toProbe s (e .node) k) i ≡ toProbe s (e .node) i
+  same-listed k i _ = with-same (toProbe s (e .node)) k i
+
+  same-pending : (k i : ℕ) → i < nodes → with-at (pending s (e .node)) k (pending s (e .node) k) i ≡ pending s (e .node) i
+  same-pending k i _ = with-same (pending s (e .node)) k i
 
   -- 2
-  pub store-writes : (v : ℕ) → Writes s (storeTo s x v) x x (rights s x) (stored (node s x) v) (link s x) (entry s x) (toProbe s x) (pending s x)
-  unfolding storeTo
-  store-writes v = record {
-    count = refl;
-    parents = refl;
-    rights = same _ _ x;
-    nodes = put _ _ x _ nx;
-    links = same _ _ x;
-    entries = row-same _ _ x;
-    toProbe = row-same _ _ x;
-    pending = row-same _ _ x;
-  }
+  pub store-writes : StoreWrites s e (e .node) (after kindStore s e (e .node))
+  unfolding numbered choose storeDoes settledPhase
+  store-writes =
+      effect-writes s z (e .node) hx (e .node) hx (kindOf kindStore) e (sceneOf s (e .node) (e .node)) (kindOf kindStore .does (sceneOf s (e .node) (e .node)) e) (same-entries (e .node)) (same-listed (e .node)) (same-pending (e .node))
 
-  -- 3, 4
-  pub miss-writes : (pu : ℕ) → Writes s (missTo s x pu) x x (rights s x) (withPurpose (withPhase (node s x) ask) pu) (link s x) (entry s x) (toProbe s x) (pending s x)
-  unfolding missTo
-  miss-writes pu = record {
-    count = refl;
-    parents = refl;
-    rights = same _ _ x;
-    nodes = put _ _ x _ nx;
-    links = same _ _ x;
-    entries = row-same _ _ x;
-    toProbe = row-same _ _ x;
-    pending = row-same _ _ x;
-  }
+  -- 3
+  pub load-miss-writes : LoadMissWrites s e (e .node) (after kindLoadMiss s e (e .node))
+  unfolding numbered choose loadMissDoes settledPhase
+  load-miss-writes =
+      effect-writes s z (e .node) hx (e .node) hx (kindOf kindLoadMiss) e (sceneOf s (e .node) (e .node)) (kindOf kindLoadMiss .does (sceneOf s (e .node) (e .node)) e) (same-entries (e .node)) (same-listed (e .node)) (same-pending (e .node))
+
+  -- 4
+  pub store-miss-writes : StoreMissWrites s e (e .node) (after kindStoreMiss s e (e .node))
+  unfolding numbered choose storeMissDoes settledPhase
+  store-miss-writes =
+      effect-writes s z (e .node) hx (e .node) hx (kindOf kindStoreMiss) e (sceneOf s (e .node) (e .node)) (kindOf kindStoreMiss .does (sceneOf s (e .node) (e .node)) e) (same-entries (e .node)) (same-listed (e .node)) (same-pending (e .node))
 
   -- 5
-  pub evict-writes : Writes s (evictTo s x) x x (rights s x) (settledNode (evictTo s x) x true (withPurpose (node s x) toEvict)) (link s x) (entry s x) (held s x) (pending s x)
-  unfolding evictTo
-  evict-writes = record {
-    count = refl;
-    parents = refl;
-    rights = same _ _ x;
-    nodes = put-again _ _ x _ (settledNode (evictTo s x) x true) nx;
-    links = same _ _ x;
-    entries = row-same _ _ x;
-    toProbe = row-fill _ _ x _ (z .toProbe) hx;
-    pending = row-same _ _ x;
-  }
+  pub evict-writes : EvictWrites s e (e .node) (after kindEvict s e (e .node))
+  unfolding numbered choose evictDoes settledPhase
+  evict-writes =
+      effect-writes s z (e .node) hx (e .node) hx (kindOf kindEvict) e (sceneOf s (e .node) (e .node)) (kindOf kindEvict .does (sceneOf s (e .node) (e .node)) e) (same-entries (e .node)) (λ i _. refl) (same-pending (e .node))
 
   -- 6
-  pub send-acquire-writes : Writes s (sendAcquireTo s x) x x (rights s x) (withPhase (node s x) wait) (withA (link s x) (acquireFor (purpose s x) (rights s x))) (entry s x) (toProbe s x) (pending s x)
-  unfolding sendAcquireTo
-  send-acquire-writes = record {
-    count = refl;
-    parents = refl;
-    rights = same _ _ x;
-    nodes = put _ _ x _ nx;
-    links = put _ _ x _ (at-link x hx);
-    entries = row-same _ _ x;
-    toProbe = row-same _ _ x;
-    pending = row-same _ _ x;
-  }
+  pub send-acquire-writes : SendAcquireWrites s e (e .node) (after kindSendAcquire s e (e .node))
+  unfolding numbered choose sendAcquireDoes settledPhase
+  send-acquire-writes =
+      effect-writes s z (e .node) hx (e .node) hx (kindOf kindSendAcquire) e (sceneOf s (e .node) (e .node)) (kindOf kindSendAcquire .does (sceneOf s (e .node) (e .node)) e) (same-entries (e .node)) (same-listed (e .node)) (same-pending (e .node))
 
   -- 9
-  pub take-probe-writes : Writes s (takeProbeTo s x) x x (rights s x) (withCap (withProbe (node s x) true) (slotB s x)) (withB (link s x) empty) (entry s x) (λ k. probedBy (slotB s x) (entry s x k)) (pending s x)
-  unfolding takeProbeTo
-  take-probe-writes = record {
-    count = refl;
-    parents = refl;
-    rights = same _ _ x;
-    nodes = put _ _ x _ nx;
-    links = put _ _ x _ (at-link x hx);
-    entries = row-same _ _ x;
-    toProbe = row-fill _ _ x _ (z .toProbe) hx;
-    pending = row-same _ _ x;
-  }
+  pub take-probe-writes : TakeProbeWrites s e (e .node) (after kindTakeProbe s e (e .node))
+  unfolding numbered choose takeProbeDoes settledPhase
+  take-probe-writes =
+      effect-writes s z (e .node) hx (e .node) hx (kindOf kindTakeProbe) e (sceneOf s (e .node) (e .node)) (kindOf kindTakeProbe .does (sceneOf s (e .node) (e .node)) e) (same-entries (e .node)) (λ i _. refl) (same-pending (e .node))
 
   -- 10
-  pub send-probe-ack-writes : Writes s (sendProbeAckTo s x) x x (fallen (cap s x) (rights s x)) (acked (node s x) (fallen (cap s x) (rights s x)))
-      (filledC (link s x) (probeAckFor (dirty s x)) (fallen (cap s x) (rights s x)) (carried (dirty s x) (value s x))) (entry s x) (toProbe s x) (pending s x)
-  unfolding sendProbeAckTo
-  send-probe-ack-writes = record {
-    count = refl;
-    parents = refl;
-    rights = put _ _ x _ rx;
-    nodes = put _ _ x _ nx;
-    links = put _ _ x _ (at-link x hx);
-    entries = row-same _ _ x;
-    toProbe = row-same _ _ x;
-    pending = row-same _ _ x;
-  }
+  pub send-probe-ack-writes : SendProbeAckWrites s e (e .node) (after kindSendProbeAck s e (e .node))
+  unfolding numbered choose sendProbeAckDoes settledPhase
+  send-probe-ack-writes =
+      effect-writes s z (e .node) hx (e .node) hx (kindOf kindSendProbeAck) e (sceneOf s (e .node) (e .node)) (kindOf kindSendProbeAck .does (sceneOf s (e .node) (e .node)) e) (same-entries (e .node)) (same-listed (e .node)) (same-pending (e .node))
 
   -- 12
-  pub take-grant-writes : Writes s (takeGrantTo s x) x x (grantedRights (slotD s x))
-      (withPhase (withDirty (withValue (node s x) (installed (slotD s x) (down s x) (value s x))) false) confirm) (filledD (link s x) empty 0) (entry s x) (toProbe s x) (pending s x)
-  unfolding takeGrantTo
-  take-grant-writes = record {
-    count = refl;
-    parents = refl;
-    rights = put _ _ x _ rx;
-    nodes = put _ _ x _ nx;
-    links = put _ _ x _ (at-link x hx);
-    entries = row-same _ _ x;
-    toProbe = row-same _ _ x;
-    pending = row-same _ _ x;
-  }
+  pub take-grant-writes : TakeGrantWrites s e (e .node) (after kindTakeGrant s e (e .node))
+  unfolding numbered choose takeGrantDoes settledPhase
+  take-grant-writes =
+      effect-writes s z (e .node) hx (e .node) hx (kindOf kindTakeGrant) e (sceneOf s (e .node) (e .node)) (kindOf kindTakeGrant .does (sceneOf s (e .node) (e .node)) e) (same-entries (e .node)) (same-listed (e .node)) (same-pending (e .node))
 
   -- 13
-  pub send-grant-ack-writes : Writes s (sendGrantAckTo s x) x x (rights s x) (confirmed (isLeaf s x) (node s x)) (withE (link s x) grantAck) (entry s x) (toProbe s x) (pending s x)
-  unfolding sendGrantAckTo
-  send-grant-ack-writes = record {
-    count = refl;
-    parents = refl;
-    rights = same _ _ x;
-    nodes = put _ _ x _ nx;
-    links = put _ _ x _ (at-link x hx);
-    entries = row-same _ _ x;
-    toProbe = row-same _ _ x;
-    pending = row-same _ _ x;
-  }
+  pub send-grant-ack-writes : SendGrantAckWrites s e (e .node) (after kindSendGrantAck s e (e .node))
+  unfolding numbered choose sendGrantAckDoes settledPhase
+  send-grant-ack-writes =
+      effect-writes s z (e .node) hx (e .node) hx (kindOf kindSendGrantAck) e (sceneOf s (e .node) (e .node)) (kindOf kindSendGrantAck .does (sceneOf s (e .node) (e .node)) e) (same-entries (e .node)) (same-listed (e .node)) (same-pending (e .node))
 
   -- 16
-  pub send-release-writes : Writes s (sendReleaseTo s x) x x rightsN (left (node s x)) (filledC (link s x) (releaseFor (dirty s x)) 0 (carried (dirty s x) (value s x))) (entry s x) (toProbe s x) (pending s x)
-  unfolding sendReleaseTo
-  send-release-writes = record {
-    count = refl;
-    parents = refl;
-    rights = put _ _ x _ rx;
-    nodes = put _ _ x _ nx;
-    links = put _ _ x _ (at-link x hx);
-    entries = row-same _ _ x;
-    toProbe = row-same _ _ x;
-    pending = row-same _ _ x;
-  }
+  pub send-release-writes : SendReleaseWrites s e (e .node) (after kindSendRelease s e (e .node))
+  unfolding numbered choose sendReleaseDoes settledPhase valueAt dirtyAt
+  send-release-writes =
+      effect-writes s z (e .node) hx (e .node) hx (kindOf kindSendRelease) e (sceneOf s (e .node) (e .node)) (kindOf kindSendRelease .does (sceneOf s (e .node) (e .node)) e) (same-entries (e .node)) (same-listed (e .node)) (same-pending (e .node))
 
   -- 19
-  pub take-release-ack-writes : Writes s (takeReleaseAckTo s x) x x (rights s x) (idled (node s x)) (filledD (link s x) empty 0) (entry s x) (toProbe s x) (pending s x)
-  unfolding takeReleaseAckTo
-  take-release-ack-writes = record {
-    count = refl;
-    parents = refl;
-    rights = same _ _ x;
-    nodes = put _ _ x _ nx;
-    links = put _ _ x _ (at-link x hx);
-    entries = row-same _ _ x;
-    toProbe = row-same _ _ x;
-    pending = row-same _ _ x;
-  }
+  pub take-release-ack-writes : TakeReleaseAckWrites s e (e .node) (after kindTakeReleaseAck s e (e .node))
+  unfolding numbered choose takeReleaseAckDoes settledPhase
+  take-release-ack-writes =
+      effect-writes s z (e .node) hx (e .node) hx (kindOf kindTakeReleaseAck) e (sceneOf s (e .node) (e .node)) (kindOf kindTakeReleaseAck .does (sceneOf s (e .node) (e .node)) e) (same-entries (e .node)) (same-listed (e .node)) (same-pending (e .node))
 
-  -- with a child
+  -- on the link of a child
   module _ (k : ℕ) (hk : k < nodes) where
     -- 7
-    pub take-acquire-writes : Writes s (takeAcquireTo s x k) x k (rights s x)
-        (settledNode (takeAcquireTo s x k) x true (withRequester (withPurpose (node s x) (purposeFor (slotA s k))) k)) (withA (link s k) empty)
-        (entry s x) (λ j. probedFor (purposeFor (slotA s k)) (named s x) k (entry s x j) j) (pending s x)
-    unfolding takeAcquireTo
-    take-acquire-writes = record {
-      count = refl;
-      parents = refl;
-      rights = same _ _ x;
-      nodes = put-again _ _ x _ (settledNode (takeAcquireTo s x k) x true) nx;
-      links = put _ _ k _ (at-link k hk);
-      entries = row-same _ _ x;
-      toProbe = row-fill _ _ x _ (z .toProbe) hx;
-      pending = row-same _ _ x;
-    }
+    pub take-acquire-writes : TakeAcquireWrites s e (e .node) k (after kindTakeAcquire s e k)
+    unfolding numbered choose takeAcquireDoes settledPhase
+    take-acquire-writes =
+        effect-writes s z (e .node) hx k hk (kindOf kindTakeAcquire) e (sceneOf s (e .node) k) (kindOf kindTakeAcquire .does (sceneOf s (e .node) k) e) (same-entries k) (λ i _. refl) (same-pending k)
 
     -- 8
-    pub send-probe-writes : Writes s (sendProbeTo s x k) x k (rights s x) (node s x) (withB (link s k) (capFor (probing s x) (cap s x) (purpose s x)))
-        (entry s x) (with-at (toProbe s x) k false) (with-at (pending s x) k true)
-    unfolding sendProbeTo
-    send-probe-writes = record {
-      count = refl;
-      parents = refl;
-      rights = same _ _ x;
-      nodes = same _ _ x;
-      links = put _ _ k _ (at-link k hk);
-      entries = row-same _ _ x;
-      toProbe = row-put _ _ x k _ (z .toProbe) hx hk;
-      pending = row-put _ _ x k _ (z .pending) hx hk;
-    }
+    pub send-probe-writes : SendProbeWrites s e (e .node) k (after kindSendProbe s e k)
+    unfolding numbered choose sendProbeDoes settledPhase
+    send-probe-writes =
+        effect-writes s z (e .node) hx k hk (kindOf kindSendProbe) e (sceneOf s (e .node) k) (kindOf kindSendProbe .does (sceneOf s (e .node) k) e) (same-entries k) (λ i _. refl) (λ i _. refl)
 
     -- 11
-    pub take-probe-ack-writes : Writes s (takeProbeAckTo s x k) x k (rights s x)
-        (settledNode (takeProbeAckTo s x k) x false (dataTaken (node s x) (link s k))) (emptiedC (link s k))
-        (with-at (entry s x) k (kept s k)) (toProbe s x) (with-at (pending s x) k false)
-    unfolding takeProbeAckTo
-    take-probe-ack-writes = record {
-      count = refl;
-      parents = refl;
-      rights = same _ _ x;
-      nodes = put-again _ _ x _ (settledNode (takeProbeAckTo s x k) x false) nx;
-      links = put _ _ k _ (at-link k hk);
-      entries = row-put _ _ x k _ (z .entries) hx hk;
-      toProbe = row-same _ _ x;
-      pending = row-put _ _ x k _ (z .pending) hx hk;
-    }
+    pub take-probe-ack-writes : TakeProbeAckWrites s e (e .node) k (after kindTakeProbeAck s e k)
+    unfolding numbered choose takeProbeAckDoes settledPhase
+    take-probe-ack-writes =
+        effect-writes s z (e .node) hx k hk (kindOf kindTakeProbeAck) e (sceneOf s (e .node) k) (kindOf kindTakeProbeAck .does (sceneOf s (e .node) k) e) (λ i _. refl) (same-listed k) (λ i _. refl)
+
+    -- 14
+    pub send-grant-writes : SendGrantWrites s e (e .node) k (after kindSendGrant s e k)
+    unfolding numbered choose sendGrantDoes settledPhase
+    send-grant-writes =
+        effect-writes s z (e .node) hx k hk (kindOf kindSendGrant) e (sceneOf s (e .node) k) (kindOf kindSendGrant .does (sceneOf s (e .node) k) e) (λ i _. refl) (same-listed k) (same-pending k)
+
+    -- 15
+    pub take-grant-ack-writes : TakeGrantAckWrites s e (e .node) k (after kindTakeGrantAck s e k)
+    unfolding numbered choose takeGrantAckDoes settledPhase
+    take-grant-ack-writes =
+        effect-writes s z (e .node) hx k hk (kindOf kindTakeGrantAck) e (sceneOf s (e .node) k) (kindOf kindTakeGrantAck .does (sceneOf s (e .node) k) e) (same-entries k) (same-listed k) (same-pending k)
 
     -- 17
-    pub take-release-writes : Writes s (takeReleaseTo s x k) x k (rights s x)
-        (settledNode (takeReleaseTo s x k) x false (withRelease (dataTaken (node s x) (link s k)) k)) (emptiedC (link s k))
-        (with-at (entry s x) k none) (with-at (toProbe s x) k false) (pending s x)
-    unfolding takeReleaseTo
-    take-release-writes = record {
-      count = refl;
-      parents = refl;
-      rights = same _ _ x;
-      nodes = put-again _ _ x _ (settledNode (takeReleaseTo s x k) x false) nx;
-      links = put _ _ k _ (at-link k hk);
-      entries = row-put _ _ x k _ (z .entries) hx hk;
-      toProbe = row-put _ _ x k _ (z .toProbe) hx hk;
-      pending = row-same _ _ x;
-    }
+    pub take-release-writes : TakeReleaseWrites s e (e .node) k (after kindTakeRelease s e k)
+    unfolding numbered choose takeReleaseDoes settledPhase
+    take-release-writes =
+        effect-writes s z (e .node) hx k hk (kindOf kindTakeRelease) e (sceneOf s (e .node) k) (kindOf kindTakeRelease .does (sceneOf s (e .node) k) e) (λ i _. refl) (λ i _. refl) (same-pending k)
 
-  -- 14, with the grant d
-  pub send-grant-writes : (choice : ℕ) → requester s x < nodes → Writes s (sendGrantTo s x choice) x (requester s x) (rights s x) (withPhase (node s x) await)
-      (filledD (link s (requester s x)) (grantFor (purpose s x) choice (entry s x (requester s x)))
-      (grantValue (grantFor (purpose s x) choice (entry s x (requester s x))) (value s x)))
-      (with-at (entry s x) (requester s x) (entryFor (grantFor (purpose s x) choice (entry s x (requester s x))))) (toProbe s x) (pending s x)
-  unfolding sendGrantTo
-  send-grant-writes choice hq = record {
-    count = refl;
-    parents = refl;
-    rights = same _ _ x;
-    nodes = put _ _ x _ nx;
-    links = put _ _ (requester s x) _ (at-link (requester s x) hq);
-    entries = row-put _ _ x (requester s x) _ (z .entries) hx hq;
-    toProbe = row-same _ _ x;
-    pending = row-same _ _ x;
-  }
-
-  -- 15
-  pub take-grant-ack-writes : requester s x < nodes → Writes s (takeGrantAckTo s x) x (requester s x) (rights s x) (idled (node s x)) (withE (link s (requester s x)) empty) (entry s x) (toProbe s x) (pending s x)
-  unfolding takeGrantAckTo
-  take-grant-ack-writes hq = record {
-    count = refl;
-    parents = refl;
-    rights = same _ _ x;
-    nodes = put _ _ x _ nx;
-    links = put _ _ (requester s x) _ (at-link (requester s x) hq);
-    entries = row-same _ _ x;
-    toProbe = row-same _ _ x;
-    pending = row-same _ _ x;
-  }
-
-  -- 18
-  pub send-release-ack-writes : noted s x < nodes → Writes s (sendReleaseAckTo s x) x (noted s x) (rights s x) (withRelease (node s x) noChild) (filledD (link s (noted s x)) releaseAck 0) (entry s x) (toProbe s x) (pending s x)
-  unfolding sendReleaseAckTo
-  send-release-ack-writes hq = record {
-    count = refl;
-    parents = refl;
-    rights = same _ _ x;
-    nodes = put _ _ x _ nx;
-    links = put _ _ (noted s x) _ (at-link (noted s x) hq);
-    entries = row-same _ _ x;
-    toProbe = row-same _ _ x;
-    pending = row-same _ _ x;
-  }
+    -- 18
+    pub send-release-ack-writes : SendReleaseAckWrites s e (e .node) k (after kindSendReleaseAck s e k)
+    unfolding numbered choose sendReleaseAckDoes settledPhase
+    send-release-ack-writes =
+        effect-writes s z (e .node) hx k hk (kindOf kindSendReleaseAck) e (sceneOf s (e .node) k) (kindOf kindSendReleaseAck .does (sceneOf s (e .node) k) e) (same-entries k) (same-listed k) (same-pending k)

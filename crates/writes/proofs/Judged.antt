@@ -1,21 +1,21 @@
--- What an accepted step is: its event, its place and its needs hold, and it did what its row does; and a fact shown for each row.
-use mathlib.Core.Path.{_≡_, refl, sym, _∙_, subst}
-use mathlib.Core.Bool.{true, not, _&&_, _||_}
-use mathlib.Core.Logic.{_⊎_, inl, inr}
+-- What an accepted step is: its event, its place and its needs hold, and it did what its row does; and a fact shown for each kind.
+use mathlib.Core.Path.{_≡_, refl, sym, _∙_}
+use mathlib.Core.Bool.{true, false, not, _&&_, _||_, false≢true}
+use mathlib.Core.Logic.{_≢_, _⊎_, inl, inr}
 use mathlib.Core.List.{List, [], _∷_}
-use Prim.Native.Nat.{ℕ, zero, suc, _+_, _<_, _≤_}
-use native.Mathlib.Nat.{not-suc-le-zero}
+use Prim.Native.Nat.{ℕ, _<_, _≤_}
 use native.Mathlib.Omega.{arith}
 use borrow.Author.Tests.{eqb-true, leb-true, ltb-true, not-false}
-use lib.ListN.{getD, length}
+use lib.ListN.{getD}
 use lib.Dec.{eqb, leb, ltb}
-use Rattle.words.specs.Vocab.{all}
-use Rattle.words.proofs.Facts.{both, all-at, either, choose-true, by-test}
-use Rattle.rules.specs.Codes.{nodes}
-use Rattle.rules.specs.Tree.{parentOk, treeOk, isChild}
+use Rattle.words.specs.Vocab.{all, choose}
+use Rattle.words.proofs.Facts.{both, all-at, either, by-test}
+use Rattle.rules.specs.Codes.{nodes, accepts}
+use Rattle.rules.specs.Tree.{parentOk, treeOk, goodTree, isChild, isLeaf}
 use Rattle.rules.specs.Configuration.{configurationOk}
-use Rattle.rules.specs.Events.{isKind, takesChild, takesValue, otherOk, eventOk, placeOk}
-use Rattle.rules.specs.Step.{Row, noRow, rows, rowOf, judged, stepOf}
+use Rattle.rules.specs.Events.{otherFits, valueFits, placeFits, eventOk, placeOk}
+use Rattle.rules.specs.Table.{Kind, kinds, listed, numbered, noKind, isKind, kindOf}
+use Rattle.rules.specs.Step.{endAt, sceneAt, linkThere, turnOk, valueOf, nextOf, Refusal, firstOf, eventRefusals, refusals, answerOf, stepOf, onwardOf}
 use Rattle.rules.specs.declared.State.{State}
 use Rattle.rules.specs.declared.Event.{Event}
 use Rattle.rules.specs.declared.Answer.{Answer}
@@ -54,73 +54,95 @@ tree n ps h = record { least = leb-true _ _ (w .0); most = most; smaller = small
 pub record Known (s : State) (e : Event) : Type 0 where
   pub kind : isKind (e .kind) ≡ true
   pub inside : e .node < s .count
-  pub other : otherOk s e ≡ true
+  pub other : otherFits (kindOf (e .kind) .row .other) (isChild s (e .node) (e .other)) (e .other) ≡ true
 
 pub known : (s : State) (e : Event) → eventOk s e ≡ true → Known s e
 unfolding eventOk
 known s e h =
-    let u = both _ (takesValue (e .kind) || eqb (e .value) 0) h in
-    let w = both _ (otherOk s e) (u .0) in
+    let u = both _ (valueFits (kindOf (e .kind) .row .value) (e .value)) h in
+    let w = both _ (otherFits (kindOf (e .kind) .row .other) (isChild s (e .node) (e .other)) (e .other)) (u .0) in
     let v = both (isKind (e .kind)) _ (w .0) in
     record { kind = v .0; inside = ltb-true _ _ (v .1); other = w .1 }
 
--- the other of a kind that takes a child is a child
-pub other-child : (s : State) (e : Event) → otherOk s e ≡ true → takesChild (e .kind) ≡ true → isChild s (e .node) (e .other) ≡ true
-unfolding otherOk
-other-child s e h t = sym (choose-true _ _ t) ∙ h
+-- what number 5 lets through
+pub record Turn (s : State) (e : Event) : Type 0 where
+  pub there : linkThere (kindOf (e .kind) .row .end) (isChild s (e .node) (endAt s e)) ≡ true
+  pub needs : kindOf (e .kind) .needs (sceneAt s e) e ≡ true
 
--- an accepted step
-pub record Taken (s : State) (e : Event) (t : State) : Type 0 where
+pub in-turn : (s : State) (e : Event) → turnOk s e ≡ true → Turn s e
+unfolding turnOk
+in-turn s e h = let u = both (linkThere (kindOf (e .kind) .row .end) (isChild s (e .node) (endAt s e))) _ h in record { there = u .0; needs = u .1 }
+
+-- a list of refusals of which none applies
+pub passes : (r : Refusal) (rs : List Refusal) → r .number ≢ accepts → firstOf (r ∷ rs) ≡ accepts → (r .applies ≡ false) × (firstOf rs ≡ accepts)
+unfolding firstOf
+passes r rs n = by-test (λ (k : ℕ). k ≡ accepts → (r .applies ≡ false) × (firstOf rs ≡ accepts)) (r .applies) _ _ (λ _ h. absurd (n h)) (λ e h. (e, h))
+
+-- an answer has the number that it was given for
+pub number-of : (n : ℕ) (s : State) (e : Event) → answerOf n s e .number ≡ n
+unfolding answerOf
+number-of n s e = by-test (λ (a : Answer). a .number ≡ n) (eqb n accepts) _ _ (λ h. sym (eqb-true n accepts h)) (λ _. refl)
+
+-- an accepted one has the next configuration and the kind's value
+pub given : (n : ℕ) (s : State) (e : Event) → n ≡ accepts → (answerOf n s e .state ≡ nextOf s e) × (answerOf n s e .value ≡ valueOf s e)
+unfolding answerOf choose
+given n s e h = rw h (refl, refl)
+
+-- what an accepted step has passed: its event, its place and its needs
+pub record Taken (s : State) (e : Event) : Type 0 where
   pub event : eventOk s e ≡ true
   pub place : placeOk s e ≡ true
-  pub needs : rowOf (e .kind) .needs s e ≡ true
-  pub does : t ≡ rowOf (e .kind) .does s e
+  pub turn : Turn s e
 
-abbrev Through : State → Event → Answer → Type 0
-Through s e a = a .number ≡ 0 → Taken s e (a .state)
-
-wrong : {A : Type 0} {n : ℕ} → suc n ≡ 0 → A
-wrong e = absurd (omega arith)
-
-pub judged-taken : (s : State) (e : Event) → judged s e .number ≡ 0 → Taken s e (judged s e .state)
-unfolding judged
-judged-taken s e =
-    by-test (Through s e) (not (eventOk s e)) _ _ (λ _ h. wrong h) λ a.
-    by-test (Through s e) (not (placeOk s e)) _ _ (λ _ h. wrong h) λ b.
-    by-test (Through s e) (rowOf (e .kind) .needs s e) _ _ (λ d h. record { event = not-false _ a; place = not-false _ b; needs = d; does = refl }) (λ _ h. wrong h)
+pub taken : (s : State) (e : Event) → firstOf (eventRefusals s e) ≡ accepts → Taken s e
+taken s e h =
+    let a = passes _ _ (λ z. omega arith) h in
+    let b = passes _ _ (λ z. omega arith) (a .1) in
+    let c = passes _ [] (λ z. omega arith) (b .1) in
+    record { event = not-false _ (a .0); place = not-false _ (b .0); turn = in-turn s e (not-false _ (c .0)) }
 
 -- an accepted step of a configuration on a good tree
-pub record Stepped (s : State) (e : Event) (t : State) : Type 0 where
-  pub tree : treeOk (s .count) (s .parents) ≡ true
+pub record Stepped (s : State) (e : Event) : Type 0 where
+  pub tree : goodTree s ≡ true
   pub configuration : configurationOk s ≡ true
-  pub taken : Taken s e t
+  pub taken : Taken s e
+  pub next : stepOf s e .state ≡ nextOf s e
+  pub value : stepOf s e .value ≡ valueOf s e
 
-abbrev Whole : State → Event → Answer → Type 0
-Whole s e a = a .number ≡ 0 → Stepped s e (a .state)
-
-pub step-taken : (s : State) (e : Event) → stepOf s e .number ≡ 0 → Stepped s e (stepOf s e .state)
+pub step-taken : (s : State) (e : Event) → stepOf s e .number ≡ accepts → Stepped s e
 unfolding stepOf
-step-taken s e =
-    by-test (Whole s e) (not (treeOk (s .count) (s .parents))) _ _ (λ _ h. wrong h) λ a.
-    by-test (Whole s e) (not (configurationOk s)) _ _ (λ _ h. wrong h) λ b h.
-    record { tree = not-false _ a; configuration = not-false _ b; taken = judged-taken s e h }
+step-taken s e h =
+    let z = sym (number-of (firstOf (refusals s e)) s e) ∙ h in
+    let a = passes _ _ (λ z. omega arith) z in
+    let b = passes _ _ (λ z. omega arith) (a .1) in
+    let g = given (firstOf (refusals s e)) s e z in
+    record { tree = not-false _ (a .0); configuration = not-false _ (b .0); taken = taken s e (b .1); next = g .0; value = g .1 }
 
--- a fact for each row of a list, from the number n on
-pub data Every (P : ℕ → Row → Type 0) : ℕ → List Row → Type 0 where
-  end : {n : ℕ} → Every P n []
-  each : {n : ℕ} {r : Row} {rs : List Row} → P n r → Every P (suc n) rs → Every P n (r ∷ rs)
+-- the same of the step without number 2
+pub record Moved (s : State) (e : Event) : Type 0 where
+  pub tree : goodTree s ≡ true
+  pub taken : Taken s e
+  pub next : onwardOf s e .state ≡ nextOf s e
 
-every-at : (P : ℕ → Row → Type 0) (d : Row) (n : ℕ) (rs : List Row) → Every P n rs → (k : ℕ) → k < length rs → P (n + k) (getD rs k d)
-every-at P d n [] w k l = absurd (not-suc-le-zero l)
-every-at P d n (r ∷ rs) (each p w) zero l = let e : n ≡ n + zero = omega arith in subst (λ (i : ℕ). P i r) e p
-every-at P d n (r ∷ rs) (each p w) (suc k) l =
-    let e : suc n + k ≡ n + suc k = omega arith in subst (λ (i : ℕ). P i (getD rs k d)) e (every-at P d (suc n) rs w k (omega arith))
+pub onward-taken : (s : State) (e : Event) → onwardOf s e .number ≡ accepts → Moved s e
+unfolding onwardOf
+onward-taken s e h =
+    let z = sym (number-of _ s e) ∙ h in
+    let a = passes _ (eventRefusals s e) (λ z. omega arith) z in
+    record { tree = not-false _ (a .0); taken = taken s e (a .1); next = given _ s e z .0 }
 
--- and so for the row of a kind
-pub by-kind : (P : ℕ → Row → Type 0) → Every P 0 rows → (k : ℕ) → isKind k ≡ true → P k (rowOf k)
-unfolding rowOf
-by-kind P w k h =
-    let u = both (leb 1 k) _ h in
-    let l : k ≤ 19 = leb-true _ _ (u .1) in
-    let e : 0 + k ≡ k = omega arith in
-    subst (λ (i : ℕ). P i (getD rows k noRow)) e (every-at P noRow 0 rows w k (omega arith))
+-- a fact for each kind of a list
+pub data Every (P : Kind → Type 0) : List Kind → Type 0 where
+  end : Every P []
+  each : {k : Kind} {ks : List Kind} → P k → Every P ks → Every P (k ∷ ks)
+
+-- and so for the kind with a number of the list
+pub numbered-in : (P : Kind → Type 0) (ks : List Kind) → Every P ks → (n : ℕ) → listed ks n ≡ true → (n ≡ numbered ks n .number) × P (numbered ks n)
+unfolding listed numbered
+numbered-in P [] w n h = absurd (false≢true h)
+numbered-in P (k ∷ ks) (each p w) n h =
+    by-test (λ (r : Kind). (n ≡ r .number) × P r) (eqb n (k .number)) k (numbered ks n) (λ e. (eqb-true n (k .number) e, p)) λ e.
+    numbered-in P ks w n (rw e at h)
+
+pub by-kind : (P : Kind → Type 0) → Every P kinds → (n : ℕ) → isKind n ≡ true → (n ≡ kindOf n .number) × P (kindOf n)
+by-kind P w n h = numbered-in P kinds w n h

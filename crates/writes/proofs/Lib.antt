@@ -1,5 +1,8 @@
+pub mod Cases
 pub mod Put
 pub mod Writes
 pub mod Effects
 pub mod Needs
 pub mod Judged
+pub mod Views
+pub mod Frame

@@ -27,17 +27,6 @@ module _ {A : Type 0} where
   pub put : (d : A) (l : List A) (x : ℕ) (v : A) → x < length l → Put d l (set l x v) x v
   put d l x v h = record { at = getD-set-same l x v d h; off = λ y n. getD-set-other l x y v d n; size = length-set l x v }
 
-  -- written, and then changed by what stands there
-  pub put-again : (d : A) (l : List A) (x : ℕ) (u : A) (g : A → A) → x < length l → Put d l (set (set l x u) x (g (getD (set l x u) x d))) x (g u)
-  put-again d l x u g h =
-      let w : length (set l x u) ≡ length l = length-set l x u in
-      let b : x < length (set l x u) = omega arith in
-      record {
-        at = getD-set-same (set l x u) x _ d b ∙ ap g (getD-set-same l x u d h);
-        off = λ y n. getD-set-other (set l x u) x y _ d n ∙ getD-set-other l x y u d n;
-        size = length-set (set l x u) x _ ∙ w;
-      }
-
   -- t′ is t with the row of x as f says
   pub record Row (d : A) (t t′ : List A) (x : ℕ) (f : ℕ → A) : Type 0 where
     pub at : (k : ℕ) → k < nodes → getD t′ (cell x k) d ≡ f k
@@ -67,6 +56,10 @@ module _ {A : Type 0} where
       off : (y j : ℕ) → j < nodes → y ≢ x → getD (set t (cell x k) v) (cell y j) d ≡ getD t (cell y j) d
       off y j hj n = let o : cell y j ≢ cell x k = omega arith in getD-set-other t (cell x k) (cell y j) v d o
 
+  -- a row, read by other words
+  pub row-as : {d : A} {t t′ : List A} {x : ℕ} {f g : ℕ → A} → ((k : ℕ) → k < nodes → f k ≡ g k) → Row d t t′ x f → Row d t t′ x g
+  row-as h w = record { at = λ k b. w .at k b ∙ h k b; off = w .off; size = w .size }
+
   -- the whole row written
   pub row-fill : (d : A) (t : List A) (x : ℕ) (f : ℕ → A) → length t ≡ cells → x < nodes → Row d t (fill f (x * nodes) nodes t) x f
   row-fill d t x f s hx = record {
@@ -74,3 +67,11 @@ module _ {A : Type 0} where
     off = λ y k hk n. getD-fill-off f (x * nodes) nodes t d (cell y k) (λ i hi. omega arith);
     size = length-fill f (x * nodes) nodes t;
   }
+
+  -- one cell written, and then the whole row
+  pub row-over : (d : A) (t : List A) (x j : ℕ) (v : A) (f : ℕ → A) → length t ≡ cells → x < nodes → j < nodes
+      → Row d t (fill f (x * nodes) nodes (set t (cell x j) v)) x f
+  row-over d t x j v f s hx hj =
+      let one = row-put d t x j v s hx hj in
+      let over = row-fill d (set t (cell x j) v) x f (length-set t (cell x j) v ∙ s) hx in
+      record { at = over .at; off = λ y k hk n. over .off y k hk n ∙ one .off y k hk n; size = over .size ∙ one .size }

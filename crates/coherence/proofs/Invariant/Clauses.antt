@@ -1,50 +1,25 @@
--- The clauses of the invariant. Each speaks of one link or of one node; the tree appears in Tree and Parts alone.
+-- The clauses of the invariant. Each speaks of one link or of one node; the tree appears in Meaning alone.
 use mathlib.Core.Path.{_≡_}
 use mathlib.Core.Bool.{Bool, true, false, not, _&&_, _||_}
 use mathlib.Core.Logic.{_≢_}
 use Prim.Native.Nat.{ℕ, _<_}
 use lib.Dec.{eqb, leb}
 use Rattle.words.specs.Vocab.{choose}
-use Rattle.rules.specs.Codes.{nodes, rightsN, rightsB, tip, none, branch, trunk, clear, confirm, leaving, empty, grantT, grantDataT, grantDataB, releaseAck}
-use Rattle.rules.specs.Cells.{parent, rights, entry, toProbe, pending, node, link}
-use Rattle.rules.specs.Tree.{treeOk}
-use Rattle.rules.specs.Configuration.{carriesUp, carriesDown, isProbeAck, configurationOk}
+use Rattle.rules.specs.Codes.{nodes, rightsN, rightsB, tip, none, branch, trunk, clear, confirm, leaving, empty, releaseAck}
+use Rattle.rules.specs.Cells.{rights, entry, toProbe, pending, node}
+use Rattle.rules.specs.Tree.{goodTree}
+use Rattle.rules.specs.Messages.{installs, fromTrunk, isProbeAck, isRelease, isGrant, carriesDown, entryFor}
+use Rattle.rules.specs.Configuration.{configurationOk}
 use Rattle.rules.specs.Probe.{servesProbes}
-use Rattle.rules.specs.Grant.{entryFor}
-use Rattle.rules.specs.Release.{isRelease, awaits}
+use Rattle.rules.specs.Release.{awaits}
 use Rattle.rules.specs.declared.State.{State}
 use Rattle.rules.specs.declared.Node.{Node}
-use Rattle.rules.specs.declared.Link.{Link}
 use Rattle.writes.proofs.Writes.{Sized}
-
--- What a link shows: the parent's fields, the child's fields and rights, the parent's entry and set members for the child, the slots.
-pub record View : Type 0 where
-  pub above : Node
-  pub below : Node
-  pub rights : ℕ
-  pub entry : ℕ
-  pub wanted : Bool
-  pub waited : Bool
-  pub link : Link
-
-abbrev pub view : State → ℕ → View
-view s k = record {
-  above = node s (parent s k);
-  below = node s k;
-  rights = rights s k;
-  entry = entry s (parent s k) k;
-  wanted = toProbe s (parent s k) k;
-  waited = pending s (parent s k) k;
-  link = link s k;
-}
+use Rattle.writes.proofs.Views.{View, view}
 
 infixr 20 _⇒_
 abbrev pub _⇒_ : Bool → Bool → Bool
-true ⇒ b = b
-false ⇒ b = true
-
-abbrev pub isGrant : ℕ → Bool
-isGrant d = eqb d grantT || eqb d grantDataT || eqb d grantDataB
+a ⇒ b = not a || b
 
 -- the token is out exactly when it is at one of three places, and it is never at two
 abbrev pub token : Bool → Bool → Bool → Bool → Bool
@@ -71,7 +46,7 @@ grantToken w k =
 
 -- PRB: the child is pending exactly while the Probe is on its way, or the child's probe is open, or the ProbeAck is on its way
 abbrev pub probeToken : View → Bool
-probeToken w = token (w .waited) (not (eqb (w .link .b) empty)) (w .below .probe) (isProbeAck (w .link .c))
+probeToken w = token (w .pending) (not (eqb (w .link .b) empty)) (w .below .probe) (isProbeAck (w .link .c))
 
 -- REL: the child is in Leaving exactly while the Release is on its way, or noted, or the ReleaseAck is on its way
 abbrev pub releaseToken : View → ℕ → Bool
@@ -90,31 +65,33 @@ abbrev pub leftRule : ℕ → ℕ → ℕ → Bool
 leftRule r e c = isRelease c ⇒ (eqb r rightsN && not (eqb e none))
 
 -- GRANT: a Grant on its way: the child is not Tip, and the entry is what the Grant gives
-unfoldable pub grantRule : ℕ → ℕ → ℕ → Bool
+abbrev pub grantRule : ℕ → ℕ → ℕ → Bool
 grantRule r e d = isGrant d ⇒ (not (eqb r tip) && eqb e (entryFor d))
 
 -- DATA: data on its way up comes from a Trunk entry
 abbrev pub dataRule : ℕ → ℕ → Bool
-dataRule e c = carriesUp c ⇒ eqb e trunk
+dataRule e c = fromTrunk c ⇒ eqb e trunk
 
 -- rights against the entry, by what is in C and D
-unfoldable pub levels : ℕ → ℕ → ℕ → ℕ → ℕ → Bool
-levels r e c kept d = quietRule r e c d && ackRule r e c kept && leftRule r e c && grantRule r e d && dataRule e c
+unfoldable pub agrees : ℕ → ℕ → ℕ → ℕ → ℕ → Bool
+unfolding choose isProbeAck isRelease isGrant fromTrunk entryFor
+agrees r e c kept d = quietRule r e c d && ackRule r e c kept && leftRule r e c && grantRule r e d && dataRule e c
 
 -- EXACT, EXACT-ACK: a Branch entry with nothing on its way is exact, and so is what a ProbeAck says
 unfoldable pub exactly : ℕ → ℕ → ℕ → ℕ → ℕ → Bool
+unfolding choose isProbeAck isGrant
 exactly r e c kept d = ((eqb c empty && not (isGrant d) && eqb e branch) ⇒ eqb r rightsB) && (isProbeAck c ⇒ leb kept r)
 
 -- what the parent has, or will have once it takes what is in C
 abbrev pub upward : View → ℕ
-upward w = choose (carriesUp (w .link .c)) (w .link .up) (w .above .value)
+upward w = choose (installs (w .link .c)) (w .link .up) (w .above .value)
 
 -- The clauses on the link of k, with the last stored value v.
-pub record LinkOk (w : View) (k v : ℕ) : Type 0 where
+pub record LinkOk (v : ℕ) (w : View) (k : ℕ) : Type 0 where
   pub grants : grantToken w k ≡ true
   pub probes : probeToken w ≡ true
   pub releases : releaseToken w k ≡ true
-  pub level : levels (w .rights) (w .entry) (w .link .c) (w .link .kept) (w .link .d) ≡ true
+  pub agree : agrees (w .rights) (w .entry) (w .link .c) (w .link .kept) (w .link .d) ≡ true
   pub exact : exactly (w .rights) (w .entry) (w .link .c) (w .link .kept) (w .link .d) ≡ true
   -- COPY: a clean copy is what the parent has
   pub copy : w .rights ≢ rightsN → w .below .dirty ≡ false → w .below .value ≡ upward w
@@ -123,8 +100,10 @@ pub record LinkOk (w : View) (k v : ℕ) : Type 0 where
   -- LAST-LINK: where the trunk ends on this link, the last value is what the parent has
   pub last : w .entry ≡ trunk → w .rights ≢ tip → upward w ≡ v
 
--- The clauses on a node with the rights r, the fields m, the entries es and the sets ws (to-probe) and ps (pending).
-pub record NodeOk (r : ℕ) (m : Node) (es : ℕ → ℕ) (ws ps : ℕ → Bool) (v : ℕ) : Type 0 where
+-- The clauses on the node x with the rights r, the fields m, the entries es and the sets ws (to-probe) and ps (pending).
+pub record NodeOk (v x r : ℕ) (m : Node) (es : ℕ → ℕ) (ws ps : ℕ → Bool) : Type 0 where
+  -- ROOT: the root is Tip
+  pub root : x ≡ 0 → r ≡ tip
   -- ROW: beside a Trunk entry all are None
   pub row : (a b : ℕ) → a < nodes → b < nodes → a ≢ b → es a ≡ trunk → es b ≡ none
   -- PROBE: an open probe is served in Idle, Wait or Leaving
@@ -136,11 +115,10 @@ pub record NodeOk (r : ℕ) (m : Node) (es : ℕ → ℕ) (ws ps : ℕ → Bool)
   -- LAST: Tip with no Trunk entry holds the last value
   pub last : r ≡ tip → ((k : ℕ) → k < nodes → es k ≢ trunk) → m .value ≡ v
 
--- The invariant: the clauses at every link and node of a configuration on a good tree, whose root is Tip.
+-- The invariant: the clauses at every link and node of a configuration on a good tree.
 pub record Inv (s : State) (v : ℕ) : Type 0 where
   pub sized : Sized s
-  pub tree : treeOk (s .count) (s .parents) ≡ true
+  pub tree : goodTree s ≡ true
   pub valid : configurationOk s ≡ true
-  pub root : rights s 0 ≡ tip
-  pub links : (k : ℕ) → 0 < k → k < s .count → LinkOk (view s k) k v
-  pub knots : (x : ℕ) → x < s .count → NodeOk (rights s x) (node s x) (entry s x) (toProbe s x) (pending s x) v
+  pub links : (k : ℕ) → 0 < k → k < s .count → LinkOk v (view s k) k
+  pub nodes : (x : ℕ) → x < s .count → NodeOk v x (rights s x) (node s x) (entry s x) (toProbe s x) (pending s x)

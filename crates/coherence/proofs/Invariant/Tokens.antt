@@ -1,18 +1,15 @@
 -- Laws on the three tokens, and rules on the codes of a link that antt computes over all of them.
-use mathlib.Core.Path.{_≡_, refl, sym}
-use mathlib.Core.Bool.{Bool, true, false, _||_, false≢true}
-use mathlib.Core.Logic.{_≢_, _⊎_, inl, inr}
+use mathlib.Core.Path.{_≡_, refl, sym, ap}
+use mathlib.Core.Bool.{Bool, true, false, not, _&&_, false≢true}
+use mathlib.Core.Logic.{_≢_}
 use Prim.Native.Nat.{ℕ, _<_, _≤_}
-use borrow.Author.Tests.{leb-true, ne-eqb}
+use borrow.Author.Tests.{eqb-true, leb-true, not-true, eq-eqb}
 use lib.Dec.{eqb, leb}
 use Rattle.words.specs.Vocab.{all, choose}
-use Rattle.words.proofs.Facts.{either, all-at}
-use Rattle.rules.specs.Codes.{nodes, clear, await}
-use Rattle.rules.specs.Probe.{servesProbes}
-use Rattle.rules.specs.Grant.{entryFor}
-use Rattle.rules.specs.Release.{awaits}
-use Rattle.rules.specs.declared.Node.{Node}
-use Rattle.coherence.proofs.Invariant.Clauses.{_⇒_, token, grantRule, levels, NodeOk}
+use Rattle.words.proofs.Facts.{both, all-at, implies, differ}
+use Rattle.rules.specs.Codes.{levels, ups, keeps, downs, rightsN, none, trunk, empty, releaseAck}
+use Rattle.rules.specs.Messages.{installs, fromTrunk, isProbeAck, isRelease, isGrant, carriesDown}
+use Rattle.coherence.proofs.Invariant.Clauses.{_⇒_, token, agrees}
 
 -- where a token is
 pub data At : Bool → Bool → Bool → Bool → Type 0 where
@@ -64,49 +61,79 @@ token-third nowhere e = absurd (false≢true e)
 token-third first e = absurd (false≢true e)
 token-third second e = absurd (false≢true e)
 
--- CALM: a node with a member in a set does not await
-pub calm : {r : ℕ} {m : Node} {es : ℕ → ℕ} {ws ps : ℕ → Bool} {v : ℕ} → NodeOk r m es ws ps v → (k : ℕ) → k < nodes → (ws k || ps k) ≡ true → m .phase ≢ await
-calm {m = m} q k l h e = go (either _ _ (q .sets k l h))
-  where
-    served : servesProbes (m .phase) ≡ true → ⊥
-    served f = false≢true (rw e at f)
-
-    go : (eqb (m .phase) clear ≡ true) ⊎ (m .probe ≡ true) → ⊥
-    go (inl f) = false≢true (rw e at f)
-    go (inr f) = served (q .probe f)
-
--- a parent that does not await the child: no Grant, no GrantAck owed or on its way
-pub not-awaited : (ph q k : ℕ) → ph ≢ await → awaits ph q k ≡ false
-not-awaited ph q k n = rw (ne-eqb ph await n)
-
 -- a test over all codes of the rights, the entry, C with its kept rights, and D
 abbrev pub everyCode : (ℕ → ℕ → ℕ → ℕ → ℕ → Bool) → Bool
-everyCode f = all (λ r. all (λ e. all (λ c. all (λ k. all (f r e c k) 5) 2) 5) 3) 3
+everyCode f = all (λ r. all (λ e. all (λ c. all (λ k. all (f r e c k) downs) keeps) ups) levels) levels
 
 -- codes within their lists
 pub record Codes (r e c k d : ℕ) : Type 0 where
-  pub rights : r < 3
-  pub entry : e < 3
-  pub up : c < 5
-  pub kept : k < 2
-  pub down : d < 5
+  pub rights : r < levels
+  pub entry : e < levels
+  pub up : c < ups
+  pub kept : k < keeps
+  pub down : d < downs
 
-pub code-at : (f : ℕ → ℕ → ℕ → ℕ → ℕ → Bool) → everyCode f ≡ true → (r e c k d : ℕ) → Codes r e c k d → f r e c k d ≡ true
-code-at f h r e c k d w =
-    all-at (f r e c k) 5 d
-    (all-at (λ k. all (f r e c k) 5) 2 k
-    (all-at (λ c. all (λ k. all (f r e c k) 5) 2) 5 c
-    (all-at (λ e. all (λ c. all (λ k. all (f r e c k) 5) 2) 5) 3 e
-    (all-at (λ r. all (λ e. all (λ c. all (λ k. all (f r e c k) 5) 2) 5) 3) 3 r h (w .rights)) (w .entry)) (w .up)) (w .kept)) (w .down)
+pub code-at : (f : ℕ → ℕ → ℕ → ℕ → ℕ → Bool) → everyCode f ≡ true → {r e c k d : ℕ} → Codes r e c k d → f r e c k d ≡ true
+code-at f h {r} {e} {c} {k} w =
+    all-at (f r e c k) downs _
+    (all-at (λ k. all (f r e c k) downs) keeps _
+    (all-at (λ c. all (λ k. all (f r e c k) downs) keeps) ups _
+    (all-at (λ e. all (λ c. all (λ k. all (f r e c k) downs) keeps) ups) levels _
+    (all-at (λ r. all (λ e. all (λ c. all (λ k. all (f r e c k) downs) keeps) ups) levels) levels _ h (w .rights)) (w .entry)) (w .up)) (w .kept)) (w .down)
 
-pub apply : (a b : Bool) → (a ⇒ b) ≡ true → a ≡ true → b ≡ true
-apply true b h e = h
-apply false b h e = absurd (false≢true e)
+-- a rule with several hypotheses, put to use
+pub implies2 : (a b c : Bool) → (a ⇒ b ⇒ c) ≡ true → a ≡ true → b ≡ true → c ≡ true
+implies2 a b c h e f = implies b c (implies a (b ⇒ c) h e) f
 
--- BELOW: the rights are not above the entry
-rule-below : everyCode (λ r e c k d. levels r e c k d ⇒ leb r e) ≡ true
-unfolding all choose levels grantRule entryFor
-rule-below = refl
+pub implies3 : (a b c d : Bool) → (a ⇒ b ⇒ c ⇒ d) ≡ true → a ≡ true → b ≡ true → c ≡ true → d ≡ true
+implies3 a b c d h e f g = implies2 b c d (implies a (b ⇒ c ⇒ d) h e) f g
 
-pub below : (r e c k d : ℕ) → Codes r e c k d → levels r e c k d ≡ true → r ≤ e
-below r e c k d w h = leb-true r e (apply _ _ (code-at (λ r e c k d. levels r e c k d ⇒ leb r e) rule-below r e c k d w) h)
+-- the laws of a message in C
+module _ {c : ℕ} (l : c < ups) where
+  -- what the parent installs comes from a Trunk entry
+  pub installs-trunk : installs c ≡ true → fromTrunk c ≡ true
+  unfolding all choose installs fromTrunk
+  installs-trunk = implies _ _ (all-at (λ c. installs c ⇒ fromTrunk c) ups c refl l)
+
+  -- a ProbeAck is no Release, and a message is one of them
+  pub ack-release : isProbeAck c ≡ true → isRelease c ≡ false
+  unfolding all choose isProbeAck isRelease
+  ack-release h = not-true _ (implies _ _ (all-at (λ c. isProbeAck c ⇒ not (isRelease c)) ups c refl l) h)
+
+  pub release-ack : isRelease c ≡ true → isProbeAck c ≡ false
+  unfolding all choose isProbeAck isRelease
+  release-ack h = not-true _ (implies _ _ (all-at (λ c. isRelease c ⇒ not (isProbeAck c)) ups c refl l) h)
+
+  pub no-message : isProbeAck c ≡ false → isRelease c ≡ false → c ≡ empty
+  unfolding all choose isProbeAck isRelease
+  no-message h g = eqb-true _ _ (implies2 _ _ _ (all-at (λ c. not (isProbeAck c) ⇒ not (isRelease c) ⇒ eqb c empty) ups c refl l) (ap not h) (ap not g))
+
+-- the laws of a message in D
+module _ {d : ℕ} (l : d < downs) where
+  -- data comes down in a Grant alone
+  pub no-grant-data : isGrant d ≡ false → carriesDown d ≡ false
+  unfolding all choose isGrant carriesDown
+  no-grant-data h = not-true _ (implies _ _ (all-at (λ d. not (isGrant d) ⇒ not (carriesDown d)) downs d refl l) (ap not h))
+
+  pub grant-no-ack : isGrant d ≡ true → eqb d releaseAck ≡ false
+  unfolding all choose isGrant
+  grant-no-ack h = not-true _ (implies _ _ (all-at (λ d. isGrant d ⇒ not (eqb d releaseAck)) downs d refl l) h)
+
+-- what the codes of a link say
+module _ {r e c k d : ℕ} (w : Codes r e c k d) where
+  -- BELOW: the rights are not above the entry
+  pub below : agrees r e c k d ≡ true → r ≤ e
+  unfolding all agrees
+  below h = leb-true r e (implies _ _ (code-at (λ r e c k d. agrees r e c k d ⇒ leb r e) refl w) h)
+
+  -- the entry None: the child has nothing, and no data is on its way to it
+  pub nothing : agrees r e c k d ≡ true → e ≡ none → (r ≡ rightsN) × (carriesDown d ≡ false)
+  unfolding all agrees carriesDown
+  nothing h f =
+      let u = both (eqb r rightsN) (not (carriesDown d)) (implies2 _ _ _ (code-at (λ r e c k d. agrees r e c k d ⇒ eqb e none ⇒ (eqb r rightsN && not (carriesDown d))) refl w) h (eq-eqb _ _ f)) in
+      (eqb-true _ _ (u .0), not-true _ (u .1))
+
+  -- the entry is not Trunk: no data is on its way up
+  pub dataless : agrees r e c k d ≡ true → e ≢ trunk → installs c ≡ false
+  unfolding all agrees installs
+  dataless h n = not-true _ (implies2 _ _ _ (code-at (λ r e c k d. agrees r e c k d ⇒ not (eqb e trunk) ⇒ not (installs c)) refl w) h (differ _ _ n))

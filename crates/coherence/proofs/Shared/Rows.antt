@@ -7,7 +7,7 @@ use native.Mathlib.Decide.{ℕ-discrete}
 use native.Mathlib.Omega.{arith}
 use Rattle.words.proofs.Facts.{choose-at, choose-off, clash}
 use Rattle.rules.specs.Codes.{nodes, none, trunk}
-use Rattle.writes.proofs.Effects.{with-at}
+use Rattle.writes.proofs.Writes.{with-at}
 
 module _ {A : Type 0} (f : ℕ → A) (k : ℕ) (v : A) where
   pub with-here : with-at f k v k ≡ v

@@ -1,54 +1,94 @@
--- The links at x that a step at x moves no value, right or entry on: what is left to show is that each token stays. Slot A is in no clause.
-use mathlib.Core.Path.{_≡_}
-use mathlib.Core.Bool.{Bool}
+-- A step at x that moves no value, right or entry: what is left to show at x is the probe and the sets, and on its links the tokens.
+-- Slot A is in no clause.
+use mathlib.Core.Path.{_≡_, sym, _∙_}
+use mathlib.Core.Bool.{Bool, true, false, _||_}
+use mathlib.Core.Logic.{_≢_}
 use Prim.Native.Nat.{ℕ, _<_}
+use native.Mathlib.Omega.{arith}
 use lib.Dec.{eqb}
-use Rattle.rules.specs.Codes.{tip, leaving}
-use Rattle.rules.specs.With.{withA}
-use Rattle.rules.specs.Cells.{rights, entry, pending, node, link, dirty, value, phase, requester, probing, noted}
+use Rattle.words.proofs.Facts.{clash}
+use Rattle.rules.specs.Codes.{nodes, none, clear, leaving}
+use Rattle.rules.specs.With.{withA, withB, withE}
+use Rattle.rules.specs.Cells.{rights, entry, toProbe, pending, node, link, dirty, value, phase, requester, probing, noted}
+use Rattle.rules.specs.Probe.{servesProbes}
 use Rattle.rules.specs.Release.{awaits}
 use Rattle.rules.specs.declared.State.{State}
 use Rattle.rules.specs.declared.Node.{Node}
+use Rattle.rules.specs.declared.Link.{Link}
 use Rattle.writes.proofs.Needs.{Child}
-use Rattle.coherence.proofs.Invariant.Clauses.{view, owes, LinkOk, Inv}
-use Rattle.coherence.proofs.Invariant.Frame.{ownView, childView}
-use Rattle.coherence.proofs.Invariant.Here.{child-view}
+use Rattle.writes.proofs.Views.{ownView, childView}
+use Rattle.coherence.proofs.Invariant.Clauses.{owes, grantToken, probeToken, releaseToken, LinkOk, NodeOk, Inv}
+use Rattle.coherence.proofs.Invariant.Here.{child-ok, none-below}
 
-module _ (s : State) (v : ℕ) (i : Inv s v) (x : ℕ) where
-  -- the root keeps its rights
-  pub root-stays : x ≡ 0 → rights s x ≡ tip
-  root-stays e = rw e (i .root)
+-- other messages in A, B and E
+abbrev sent : ℕ → ℕ → ℕ → Link → Link
+sent a b e l = withE (withB (withA l a) b) e
 
-  -- the link above
-  pub own-stays : {m : Node} {a : ℕ} → 0 < x → x < s .count → m .dirty ≡ dirty s x → m .value ≡ value s x
+module _ {s : State} {v : ℕ} (i : Inv s v) {x : ℕ} (inside : x < s .count) where
+  -- the node: its rows stay
+  pub node-stays : {m : Node} → m .value ≡ value s x → (m .probe ≡ true → servesProbes (m .phase) ≡ true)
+      → ((eqb (phase s x) clear || probing s x) ≡ true → (eqb (m .phase) clear || m .probe) ≡ true)
+      → NodeOk v x (rights s x) m (entry s x) (toProbe s x) (pending s x)
+  node-stays f p c =
+      let q = i .nodes x inside in
+      record { root = q .root; row = q .row; probe = p; sets = λ k l h. c (q .sets k l h); apart = q .apart; last = rw f (q .last) }
+
+  -- and with other members in to-probe, where none is pending
+  pub node-probes : {m : Node} {ws : ℕ → Bool} → m .value ≡ value s x → (m .probe ≡ true → servesProbes (m .phase) ≡ true)
+      → ((k : ℕ) → k < nodes → (ws k || pending s x k) ≡ true → (eqb (m .phase) clear || m .probe) ≡ true)
+      → ((k : ℕ) → k < nodes → pending s x k ≡ false) → NodeOk v x (rights s x) m (entry s x) ws (pending s x)
+  node-probes f p c z =
+      let q = i .nodes x inside in
+      record { root = q .root; row = q .row; probe = p; sets = c; apart = λ k l _. z k l; last = rw f (q .last) }
+
+  -- the link above: where tokens move, and where they stay
+  pub own-moves : {m : Node} {a b e : ℕ} → 0 < x → m .dirty ≡ dirty s x → m .value ≡ value s x
+      → grantToken (ownView s x (rights s x) m (sent a b e (link s x))) x ≡ true
+      → probeToken (ownView s x (rights s x) m (sent a b e (link s x))) ≡ true
+      → releaseToken (ownView s x (rights s x) m (sent a b e (link s x))) x ≡ true
+      → LinkOk v (ownView s x (rights s x) m (sent a b e (link s x))) x
+  own-moves pos d w g p r =
+      let ok = i .links x pos inside in
+      record { grants = g; probes = p; releases = r; agree = ok .agree; exact = ok .exact; copy = rw (d, w) (ok .copy); granted = ok .granted; last = ok .last }
+
+  pub own-stays : {m : Node} {a : ℕ} → 0 < x → m .dirty ≡ dirty s x → m .value ≡ value s x
       → owes m ≡ owes (node s x) → m .probe ≡ probing s x → eqb (m .phase) leaving ≡ eqb (phase s x) leaving
-      → LinkOk (ownView s x (rights s x) m (withA (link s x) a)) x v
-  own-stays {m} {a} pos inside d w g p r =
-      let ok : LinkOk (view s x) x v = i .links x pos inside in
-      record {
-        grants = rw g (ok .grants);
-        probes = rw p (ok .probes);
-        releases = rw r (ok .releases);
-        level = ok .level;
-        exact = ok .exact;
-        copy = rw (d, w) (ok .copy);
-        granted = ok .granted;
-        last = ok .last;
-      }
+      → LinkOk v (ownView s x (rights s x) m (withA (link s x) a)) x
+  own-stays pos d w g p r =
+      let ok = i .links x pos inside in
+      own-moves pos d w (rw g (ok .grants)) (rw p (ok .probes)) (rw r (ok .releases))
 
-  -- the link of a child
-  pub below-stays : {m : Node} {wanted waited : Bool} {a : ℕ} (k : ℕ) → Child s x k → m .value ≡ value s x
-      → awaits (m .phase) (m .requester) k ≡ awaits (phase s x) (requester s x) k → waited ≡ pending s x k → eqb (m .release) k ≡ eqb (noted s x) k
-      → LinkOk (childView s k m (entry s x k) wanted waited (withA (link s k) a)) k v
-  below-stays {m} {wanted} {waited} {a} k c w g p r =
-      let ok = child-view s v i x k c in
+-- the link of a child: where tokens move, and where they stay
+module _ {s : State} {v : ℕ} (i : Inv s v) {x k : ℕ} (c : Child s x k) where
+  pub below-moves : {m : Node} {listed waits : Bool} {a b e : ℕ} → m .value ≡ value s x
+      → grantToken (childView s k m (entry s x k) listed waits (sent a b e (link s k))) k ≡ true
+      → probeToken (childView s k m (entry s x k) listed waits (sent a b e (link s k))) ≡ true
+      → releaseToken (childView s k m (entry s x k) listed waits (sent a b e (link s k))) k ≡ true
+      → LinkOk v (childView s k m (entry s x k) listed waits (sent a b e (link s k))) k
+  below-moves w g p r =
+      let ok = child-ok i c in
+      record { grants = g; probes = p; releases = r; agree = ok .agree; exact = ok .exact; copy = rw w (ok .copy); granted = rw w (ok .granted); last = rw w (ok .last) }
+
+  pub below-stays : {m : Node} {listed waits : Bool} {a : ℕ} → m .value ≡ value s x
+      → awaits (m .phase) (m .requester) k ≡ awaits (phase s x) (requester s x) k → waits ≡ pending s x k → eqb (m .release) k ≡ eqb (noted s x) k
+      → LinkOk v (childView s k m (entry s x k) listed waits (withA (link s k) a)) k
+  below-stays w g p r =
+      let ok = child-ok i c in
+      below-moves w (rw g (ok .grants)) (rw p (ok .probes)) (rw r (ok .releases))
+
+  -- and where x may have another value, and v′ be the last one: a child with no entry sees neither
+  pub below-values : {v′ : ℕ} {m : Node} {listed waits : Bool} → (entry s x k ≢ none → (m .value ≡ value s x) × (v ≡ v′))
+      → awaits (m .phase) (m .requester) k ≡ awaits (phase s x) (requester s x) k → waits ≡ pending s x k → eqb (m .release) k ≡ eqb (noted s x) k
+      → LinkOk v′ (childView s k m (entry s x k) listed waits (link s k)) k
+  below-values same g p r =
+      let ok = child-ok i c in
       record {
         grants = rw g (ok .grants);
         probes = rw p (ok .probes);
         releases = rw r (ok .releases);
-        level = ok .level;
+        agree = ok .agree;
         exact = ok .exact;
-        copy = rw w (ok .copy);
-        granted = rw w (ok .granted);
-        last = rw w (ok .last);
+        copy = λ h d. rw (same (λ z. h (none-below i c z .0)) .0) (ok .copy h d);
+        granted = λ h. ok .granted h ∙ sym (same (λ z. clash h (none-below i c z .1)) .0);
+        last = λ f h. let u = same (λ z. omega arith) in rw (u .0) (ok .last f h) ∙ u .1;
       }

@@ -1,28 +1,30 @@
 -- Kind 13, send GrantAck, keeps the invariant.
-use mathlib.Core.Path.{_≡_, refl}
+use mathlib.Core.Path.{_≡_, refl, _∙_}
 use mathlib.Core.Bool.{Bool, true, false, not}
 use Prim.Native.Nat.{ℕ, _<_}
 use borrow.Author.Tests.{eq-eqb}
 use lib.Dec.{eqb}
 use Rattle.words.specs.Vocab.{choose}
 use Rattle.words.proofs.Facts.{clash}
-use Rattle.rules.specs.Codes.{idle, empty, grantAck}
-use Rattle.rules.specs.With.{withE}
-use Rattle.rules.specs.Cells.{parent, rights, entry, toProbe, pending, node, link, phase, requester, probing, slotD, slotE}
+use Rattle.rules.specs.Codes.{idle, empty}
+use Rattle.rules.specs.Cells.{parent, node, phase, requester, probing, slotD, slotE}
 use Rattle.rules.specs.Tree.{isLeaf}
+use Rattle.rules.specs.Messages.{isGrant}
 use Rattle.rules.specs.Configuration.{configurationOk}
-use Rattle.rules.specs.Grant.{sendGrantAckNeeds, confirmed, sendGrantAckTo}
+use Rattle.rules.specs.Probe.{servesProbes}
+use Rattle.rules.specs.Grant.{confirmed}
 use Rattle.rules.specs.Release.{awaits}
 use Rattle.rules.specs.declared.State.{State}
 use Rattle.rules.specs.declared.Node.{Node}
-use Rattle.writes.proofs.Effects.{send-grant-ack-writes}
-use Rattle.writes.proofs.Needs.{SendGrantAckNeeds, send-grant-ack-needs}
-use Rattle.coherence.proofs.Invariant.Clauses.{view, isGrant, LinkOk, NodeOk, Inv}
-use Rattle.coherence.proofs.Invariant.Frame.{ownView, own-step}
+use Rattle.rules.specs.declared.Event.{Event}
+use Rattle.writes.proofs.Effects.{SendGrantAckWrites}
+use Rattle.writes.proofs.Needs.{SendGrantAckNeeds}
+use Rattle.writes.proofs.Views.{view}
+use Rattle.coherence.proofs.Invariant.Clauses.{LinkOk, Inv}
+use Rattle.coherence.proofs.Invariant.Frame.{own-step}
 use Rattle.coherence.proofs.Invariant.Tokens.{token-at, token-second}
-use Rattle.coherence.proofs.Invariant.Here.{small}
-use Rattle.coherence.proofs.Shared.Settled.{Steady}
-use Rattle.coherence.proofs.Shared.Stays.{root-stays, below-stays}
+use Rattle.coherence.proofs.Shared.Settled.{Steady, unread}
+use Rattle.coherence.proofs.Shared.Stays.{node-stays, own-moves, below-stays}
 
 -- what a leaf's Idle and another's Give have in common: no token reads them, and the fields but the main transaction stay
 record Ended (m m′ : Node) : Type 0 where
@@ -34,14 +36,11 @@ record Ended (m m′ : Node) : Type 0 where
 
 confirmed-ends : (leaf : Bool) (m : Node) → Ended m (confirmed leaf m)
 unfolding confirmed choose
-confirmed-ends true m = record { main = record { confirm = refl; await = refl; leaving = refl }; dirty = refl; value = refl; probe = refl; release = refl }
-confirmed-ends false m = record { main = record { confirm = refl; await = refl; leaving = refl }; dirty = refl; value = refl; probe = refl; release = refl }
+confirmed-ends true m = record { main = unread refl refl refl; dirty = refl; value = refl; probe = refl; release = refl }
+confirmed-ends false m = record { main = unread refl refl refl; dirty = refl; value = refl; probe = refl; release = refl }
 
-module _ (s : State) (v : ℕ) (i : Inv s v) (x : ℕ) (inside : x < s .count) (pos : 0 < x) (needs : sendGrantAckNeeds s x ≡ true) where
-  n : SendGrantAckNeeds s x
-  n = send-grant-ack-needs s x needs
-
-  ok : LinkOk (view s x) x v
+module _ {s : State} {v : ℕ} (i : Inv s v) (e : Event) {x : ℕ} (inside : x < s .count) (pos : 0 < x) (n : SendGrantAckNeeds s x) where
+  ok : LinkOk v (view s x) x
   ok = i .links x pos inside
 
   abbrev after : Node
@@ -56,33 +55,18 @@ module _ (s : State) (v : ℕ) (i : Inv s v) (x : ℕ) (inside : x < s .count) (
 
   -- in Confirm the probe is closed
   closed : probing s x ≡ true → {A : Type 0} → A
-  closed p = clash (rw (n .main) at (i .knots x inside .probe p)) refl
+  unfolding servesProbes choose
+  closed p = clash (rw (n .main) at (i .nodes x inside .probe p)) refl
 
-  own : LinkOk (ownView s x (rights s x) after (withE (link s x) grantAck)) x v
-  own = record {
-    grants = rw (out .0, out .1, ended .main .confirm);
-    probes = rw (ended .probe) (ok .probes);
-    releases = rw (ended .main .leaving) (rw (n .main) at (ok .releases));
-    level = ok .level;
-    exact = ok .exact;
-    copy = rw (ended .dirty, ended .value) (ok .copy);
-    granted = ok .granted;
-    last = ok .last;
-  }
+  -- nobody is awaited, before and after
+  awaited : (k : ℕ) → awaits (after .phase) (after .requester) k ≡ awaits (phase s x) (requester s x) k
+  unfolding awaits
+  awaited k = ended .main .await (after .requester) k ∙ rw (n .main)
 
-  knot : NodeOk (rights s x) after (entry s x) (toProbe s x) (pending s x) v
-  knot =
-      let q = i .knots x inside in
-      record {
-        row = q .row;
-        probe = λ p. closed (rw (ended .probe) at p);
-        sets = λ k l h. closed (rw (n .main) at (q .sets k l h));
-        apart = q .apart;
-        last = rw (ended .value) (q .last);
-      }
-
-  pub send-grant-ack-keeps : configurationOk (sendGrantAckTo s x) ≡ true → Inv (sendGrantAckTo s x) v
-  send-grant-ack-keeps valid =
-      let w = send-grant-ack-writes s (i .sized) x (small s v i x inside) in
-      own-step s (sendGrantAckTo s x) x _ _ _ _ _ _ v i w inside valid (root-stays s v i x) knot (λ _. own)
-      (λ k c. below-stays s v i x k c (ended .value) (rw (ended .main .await, n .main)) refl (rw (ended .release)))
+  pub send-grant-ack-keeps : (t : State) → SendGrantAckWrites s e x t → configurationOk t ≡ true → Inv t v
+  send-grant-ack-keeps t w valid =
+      own-step i inside w valid
+      (node-stays i inside (ended .value) (λ p. closed (rw (ended .probe) at p)) (λ h. closed (rw (n .main) at h)))
+      (λ _. own-moves i inside pos (ended .dirty) (ended .value) (rw (out .0, out .1, ended .main .confirm)) (rw (ended .probe) (ok .probes))
+      (rw (ended .main .leaving) (rw (n .main) at (ok .releases))))
+      (λ k c. below-stays i c (ended .value) (awaited k) refl (rw (ended .release)))

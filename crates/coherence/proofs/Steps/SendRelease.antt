@@ -1,6 +1,7 @@
 -- Kind 16, send Release, keeps the invariant.
 use mathlib.Core.Path.{_≡_, refl, sym, _∙_}
 use mathlib.Core.Bool.{Bool, true, false, not}
+use mathlib.Core.Logic.{_≢_}
 use Prim.Native.Nat.{ℕ, _<_}
 use native.Mathlib.Decide.{ℕ-discrete}
 use native.Mathlib.Omega.{arith}
@@ -8,65 +9,67 @@ use borrow.Author.Tests.{eq-eqb}
 use lib.Dec.{eqb}
 use Rattle.words.specs.Vocab.{all, choose}
 use Rattle.words.proofs.Facts.{differ}
-use Rattle.rules.specs.Codes.{rightsN, tip, none, trunk, empty, release, releaseData, releaseAck}
-use Rattle.rules.specs.Cells.{parent, rights, entry, toProbe, pending, node, link, dirty, value, slotD}
+use Rattle.rules.specs.Codes.{nodes, rightsN, tip, none, trunk, empty, release, releaseData, releaseAck}
+use Rattle.rules.specs.Cells.{parent, rights, entry, toProbe, pending, node, link, dirty, value, noted, slotC, slotD, kept}
+use Rattle.rules.specs.Messages.{installs, isRelease}
+use Rattle.rules.specs.Scenes.{filledC}
 use Rattle.rules.specs.Configuration.{configurationOk}
-use Rattle.rules.specs.Probe.{carried, filledC}
-use Rattle.rules.specs.Grant.{entryFor}
-use Rattle.rules.specs.Release.{sendReleaseNeeds, releaseFor, left, sendReleaseTo}
+use Rattle.rules.specs.Probe.{servesProbes, carried}
+use Rattle.rules.specs.Release.{releaseFor, awaits}
 use Rattle.rules.specs.declared.State.{State}
 use Rattle.rules.specs.declared.Link.{Link}
-use Rattle.writes.proofs.Effects.{send-release-writes}
-use Rattle.writes.proofs.Needs.{Child, SendReleaseNeeds, send-release-needs}
-use Rattle.coherence.proofs.Invariant.Clauses.{view, _⇒_, grantRule, levels, exactly, LinkOk, NodeOk, Inv}
-use Rattle.coherence.proofs.Invariant.Frame.{ownView, childView, own-step}
-use Rattle.coherence.proofs.Invariant.Tokens.{token-at, token-in, everyCode, code-at, apply}
-use Rattle.coherence.proofs.Invariant.Here.{small, rights-at, codes-at, child-view, none-below, data-granted}
+use Rattle.rules.specs.declared.Event.{Event}
+use Rattle.writes.proofs.Effects.{left, SendReleaseWrites}
+use Rattle.writes.proofs.Needs.{Child, SendReleaseNeeds}
+use Rattle.writes.proofs.Views.{view, ownView, childView}
+use Rattle.coherence.proofs.Invariant.Clauses.{_⇒_, agrees, exactly, LinkOk, NodeOk, Inv}
+use Rattle.coherence.proofs.Invariant.Valid.{dirty-tip}
+use Rattle.coherence.proofs.Invariant.Frame.{own-step}
+use Rattle.coherence.proofs.Invariant.Tokens.{token-at, token-in, Codes, code-at, implies3}
+use Rattle.coherence.proofs.Invariant.Here.{fit-at, own-child, child-small, codes-of}
+use Rattle.coherence.proofs.Shared.Stays.{below-values}
 
 -- the codes of the link: a Release from rights that were there, and a ReleaseData from Tip
-abbrev clean : ℕ → ℕ → ℕ → ℕ → ℕ → Bool
-clean r e c k d = levels r e c k d ⇒ (eqb c empty ⇒ (not (eqb r rightsN) ⇒ levels rightsN e release 0 d))
+module _ {r e c k d : ℕ} (w : Codes r e c k d) (h : agrees r e c k d ≡ true) (z : c ≡ empty) where
+  clean : r ≢ rightsN → agrees rightsN e release 0 d ≡ true
+  unfolding all agrees
+  clean n =
+      implies3 _ _ _ _ (code-at (λ r e c k d. agrees r e c k d ⇒ eqb c empty ⇒ not (eqb r rightsN) ⇒ agrees rightsN e release 0 d) refl w) h (eq-eqb _ _ z) (differ _ _ n)
 
-abbrev soiled : ℕ → ℕ → ℕ → ℕ → ℕ → Bool
-soiled r e c k d = levels r e c k d ⇒ (eqb c empty ⇒ (eqb r tip ⇒ levels rightsN e releaseData 0 d))
+  soiled : r ≡ tip → agrees rightsN e releaseData 0 d ≡ true
+  unfolding all agrees
+  soiled t =
+      implies3 _ _ _ _ (code-at (λ r e c k d. agrees r e c k d ⇒ eqb c empty ⇒ eqb r tip ⇒ agrees rightsN e releaseData 0 d) refl w) h (eq-eqb _ _ z) (eq-eqb _ _ t)
 
-rule-clean : everyCode clean ≡ true
-unfolding all choose levels grantRule entryFor
-rule-clean = refl
-
-rule-soiled : everyCode soiled ≡ true
-unfolding all choose levels grantRule entryFor
-rule-soiled = refl
-
-module _ (s : State) (v : ℕ) (i : Inv s v) (x : ℕ) (inside : x < s .count) (pos : 0 < x) (needs : sendReleaseNeeds s x ≡ true) where
-  n : SendReleaseNeeds s x
-  n = send-release-needs s x needs
-
+module _ {s : State} {v : ℕ} (i : Inv s v) (e : Event) {x : ℕ} (inside : x < s .count) (pos : 0 < x) (n : SendReleaseNeeds s x) where
   -- the link above
-  ok : LinkOk (view s x) x v
+  ok : LinkOk v (view s x) x
   ok = i .links x pos inside
+
+  codes : Codes (rights s x) (entry s (parent s x) x) (slotC s x) (kept s x) (slotD s x)
+  codes = codes-of i (own-child i x pos inside)
+
+  untrunked : (k : ℕ) → k < nodes → entry s x k ≢ trunk
+  untrunked k l f = let o : entry s x k ≡ none = n .entries k l in omega arith
 
   -- x holds the last value where it is Tip: it has no entry
   holds : rights s x ≡ tip → value s x ≡ v
-  holds e = i .knots x inside .last e (λ k l f. absurd (none-trunk (sym (n .entries k l) ∙ f)))
-    where
-      none-trunk : 0 ≡ trunk → ⊥
-      none-trunk e = omega arith
+  holds e = i .nodes x inside .last e untrunked
 
   -- no Release of x was out
-  gone : (false ≡ false) × (eqb (node s (parent s x) .release) x ≡ false) × (eqb (slotD s x) releaseAck ≡ false)
-  gone = token-in (token-at _ _ _ _ (rw (n .main, n .slot) at (ok .releases))) refl
+  gone : (isRelease (slotC s x) ≡ false) × (eqb (noted s (parent s x)) x ≡ false) × (eqb (slotD s x) releaseAck ≡ false)
+  gone = token-in (token-at _ _ _ _ (rw (n .main) at (ok .releases))) refl
 
   abbrev message : Bool → Link
-  message d = filledC (link s x) (releaseFor d) 0 (carried d (value s x))
+  message d = filledC (releaseFor d) 0 (carried d (value s x)) (link s x)
 
-  own : (d : Bool) → dirty s x ≡ d → LinkOk (ownView s x rightsN (left (node s x)) (message d)) x v
-  unfolding releaseFor carried choose exactly
+  own : (d : Bool) → dirty s x ≡ d → LinkOk v (ownView s x rightsN (left (node s x)) (message d)) x
+  unfolding releaseFor carried agrees exactly installs
   own true e = record {
     grants = rw (n .main) at (ok .grants);
     probes = rw (n .slot) at (ok .probes);
     releases = rw (gone .1, gone .2);
-    level = apply _ _ (apply _ _ (apply _ _ (code-at soiled rule-soiled _ _ _ _ _ (codes-at s v i x pos inside)) (ok .level)) (eq-eqb _ _ (n .slot))) (eq-eqb _ _ top);
+    agree = soiled codes (ok .agree) (n .slot) top;
     exact = refl;
     copy = λ z _. absurd (z refl);
     granted = ok .granted;
@@ -74,12 +77,12 @@ module _ (s : State) (v : ℕ) (i : Inv s v) (x : ℕ) (inside : x < s .count) (
   }
     where
       top : rights s x ≡ tip
-      top = rights-at s v i x inside .dirty-tip e
+      top = dirty-tip (fit-at i x inside .own) e
   own false e = record {
     grants = rw (n .main) at (ok .grants);
     probes = rw (n .slot) at (ok .probes);
     releases = rw (gone .1, gone .2);
-    level = apply _ _ (apply _ _ (apply _ _ (code-at clean rule-clean _ _ _ _ _ (codes-at s v i x pos inside)) (ok .level)) (eq-eqb _ _ (n .slot))) (differ _ _ (n .rights));
+    agree = clean codes (ok .agree) (n .slot) (n .rights);
     exact = refl;
     copy = λ z _. absurd (z refl);
     granted = ok .granted;
@@ -91,42 +94,22 @@ module _ (s : State) (v : ℕ) (i : Inv s v) (x : ℕ) (inside : x < s .count) (
       last f (no t) = rw (n .slot) at (ok .last f t)
 
   -- the children have nothing, and no Grant is on its way to them
-  below : (k : ℕ) → Child s x k → LinkOk (childView s k (left (node s x)) (entry s x k) (toProbe s x k) (pending s x k) (link s k)) k v
-  below k c =
-      let w = child-view s v i x k c in
-      let o = none-below s v i x k c (n .entries k (small s v i k (c .inside))) in
-      record {
-        grants = rw (n .main) at (w .grants);
-        probes = w .probes;
-        releases = w .releases;
-        level = w .level;
-        exact = w .exact;
-        copy = λ z _. absurd (z (o .0));
-        granted = λ h. absurd (data-granted (slotD s k) (o .1) h);
-        last = λ e _. absurd (holds-none k c e);
-      }
-    where
-      holds-none : (k : ℕ) → Child s x k → entry s x k ≡ trunk → ⊥
-      holds-none k c e = let f : entry s x k ≡ none = n .entries k (small s v i k (c .inside)) in omega arith
+  below : (k : ℕ) → Child s x k → LinkOk v (childView s k (left (node s x)) (entry s x k) (toProbe s x k) (pending s x k) (link s k)) k
+  unfolding awaits
+  below k c = below-values i c (λ h. absurd (h (n .entries k (child-small i c)))) (rw (n .main)) refl refl
 
-  knot : NodeOk rightsN (left (node s x)) (entry s x) (toProbe s x) (pending s x) v
-  knot =
-      let q = i .knots x inside in
+  here : NodeOk v x rightsN (left (node s x)) (entry s x) (toProbe s x) (pending s x)
+  unfolding servesProbes choose
+  here =
+      let q = i .nodes x inside in
       record {
+        root = λ e. absurd (omega arith);
         row = q .row;
         probe = λ _. refl;
         sets = λ k l h. rw (n .main) at (q .sets k l h);
         apart = q .apart;
-        last = λ e _. absurd (no-tip e);
+        last = λ e _. absurd (omega arith);
       }
-    where
-      no-tip : rightsN ≡ tip → ⊥
-      no-tip e = omega arith
 
-  pub send-release-keeps : configurationOk (sendReleaseTo s x) ≡ true → Inv (sendReleaseTo s x) v
-  send-release-keeps valid =
-      let w = send-release-writes s (i .sized) x (small s v i x inside) in
-      own-step s (sendReleaseTo s x) x _ _ _ _ _ _ v i w inside valid (λ e. absurd (not-root e)) knot (λ _. own (dirty s x) refl) below
-    where
-      not-root : x ≡ 0 → ⊥
-      not-root e = omega arith
+  pub send-release-keeps : (t : State) → SendReleaseWrites s e x t → configurationOk t ≡ true → Inv t v
+  send-release-keeps t w valid = own-step i inside w valid here (λ _. own (dirty s x) refl) below

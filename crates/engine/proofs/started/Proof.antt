@@ -1,6 +1,6 @@
-use Rattle.words.proofs.Laws.{tests, choose-yes, choose-no}
 use Rattle.rules.specs.Step.{resetOf}
 use borrow.Author.Needs.{needs}
+use Rattle.words.proofs.Laws.{tests, choose-yes, choose-no}
 use Rattle.engine.proofs.started.Statement.{statement}
 use Rattle.engine.proofs.started.Tie as tie
 
@@ -8,6 +8,7 @@ pub started-spec : {M : Type 1} → statement M
 unfolding resetOf
 started-spec =
     tie.close (tie.spec
+    (λ c κs. search needs)
     (λ c κs. search needs)
     (λ c κs. search needs)
     (λ c. choose-yes _ _ _ _ (search tests) (cc))

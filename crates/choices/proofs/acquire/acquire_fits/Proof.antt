@@ -1,5 +1,5 @@
 use Rattle.rules.specs.Acquire.{acquireFits}
-use Rattle.words.proofs.Laws.{steps}
+use Rattle.choices.proofs.Cases.{cases}
 use Rattle.choices.proofs.acquire.acquire_fits.Statement.{statement}
 use Rattle.choices.proofs.acquire.acquire_fits.Tie as tie
 
@@ -7,4 +7,8 @@ pub acquire-fits-spec : {M : Type 1} → statement M
 unfolding acquireFits
 acquire-fits-spec =
     tie.close (tie.spec
-    (λ c. search steps))
+    (λ c. search cases)
+    (λ c. search cases)
+    (λ c. search cases)
+    (λ c. search cases)
+    (λ c. search cases))

@@ -1,5 +1,5 @@
 use Rattle.rules.specs.Acquire.{acquireFor}
-use Rattle.words.proofs.Laws.{steps}
+use Rattle.choices.proofs.Cases.{cases}
 use Rattle.choices.proofs.acquire.acquire_for.Statement.{statement}
 use Rattle.choices.proofs.acquire.acquire_for.Tie as tie
 
@@ -7,7 +7,9 @@ pub acquire-for-spec : {M : Type 1} → statement M
 unfolding acquireFor
 acquire-for-spec =
     tie.close (tie.spec
-    (λ c. search steps)
-    (λ c. search steps)
-    (λ c. search steps)
-    (λ c. search steps))
+    (λ c. search cases)
+    (λ c. search cases)
+    (λ c. search cases)
+    (λ c. search cases)
+    (λ c. search cases)
+    (λ c. search cases))

@@ -1,5 +1,5 @@
 use Rattle.rules.specs.Acquire.{asksFrom}
-use Rattle.words.proofs.Laws.{steps}
+use Rattle.choices.proofs.Cases.{cases}
 use Rattle.choices.proofs.acquire.asks_from.Statement.{statement}
 use Rattle.choices.proofs.acquire.asks_from.Tie as tie
 
@@ -7,4 +7,8 @@ pub asks-from-spec : {M : Type 1} → statement M
 unfolding asksFrom
 asks-from-spec =
     tie.close (tie.spec
-    (λ c. search steps))
+    (λ c. search cases)
+    (λ c. search cases)
+    (λ c. search cases)
+    (λ c. search cases)
+    (λ c. search cases))

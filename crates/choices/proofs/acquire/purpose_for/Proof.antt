@@ -1,5 +1,5 @@
 use Rattle.rules.specs.Acquire.{purposeFor}
-use Rattle.words.proofs.Laws.{steps}
+use Rattle.choices.proofs.Cases.{cases}
 use Rattle.choices.proofs.acquire.purpose_for.Statement.{statement}
 use Rattle.choices.proofs.acquire.purpose_for.Tie as tie
 
@@ -7,6 +7,8 @@ pub purpose-for-spec : {M : Type 1} → statement M
 unfolding purposeFor
 purpose-for-spec =
     tie.close (tie.spec
-    (λ c. search steps)
-    (λ c. search steps)
-    (λ c. search steps))
+    (λ c. search cases)
+    (λ c. search cases)
+    (λ c. search cases)
+    (λ c. search cases)
+    (λ c. search cases))

@@ -1,5 +1,5 @@
 use Rattle.rules.specs.Grant.{grantFor}
-use Rattle.words.proofs.Laws.{steps}
+use Rattle.choices.proofs.Cases.{cases}
 use Rattle.choices.proofs.grant.grant_for.Statement.{statement}
 use Rattle.choices.proofs.grant.grant_for.Tie as tie
 
@@ -7,8 +7,10 @@ pub grant-for-spec : {M : Type 1} → statement M
 unfolding grantFor
 grant-for-spec =
     tie.close (tie.spec
-    (λ c. search steps)
-    (λ c. search steps)
-    (λ c. search steps)
-    (λ c. search steps)
-    (λ c. search steps))
+    (λ c. search cases)
+    (λ c. search cases)
+    (λ c. search cases)
+    (λ c. search cases)
+    (λ c. search cases)
+    (λ c. search cases)
+    (λ c. search cases))

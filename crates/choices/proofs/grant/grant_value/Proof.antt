@@ -1,6 +1,6 @@
 use Rattle.rules.specs.Grant.{grantValue}
 use borrow.Author.Needs.{needs}
-use Rattle.words.proofs.Laws.{steps}
+use Rattle.choices.proofs.Cases.{cases}
 use Rattle.choices.proofs.grant.grant_value.Statement.{statement}
 use Rattle.choices.proofs.grant.grant_value.Tie as tie
 
@@ -9,5 +9,5 @@ unfolding grantValue
 grant-value-spec =
     tie.close (tie.spec
     (λ c κs. search needs)
-    (λ c. search steps)
-    (λ c. search steps))
+    (λ c. search cases)
+    (λ c. search cases))

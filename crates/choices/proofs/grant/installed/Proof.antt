@@ -1,6 +1,6 @@
-use Rattle.rules.specs.Grant.{installed}
+use Rattle.rules.specs.Scenes.{installed}
 use borrow.Author.Needs.{needs}
-use Rattle.words.proofs.Laws.{steps}
+use Rattle.choices.proofs.Cases.{cases}
 use Rattle.choices.proofs.grant.installed.Statement.{statement}
 use Rattle.choices.proofs.grant.installed.Tie as tie
 
@@ -9,5 +9,5 @@ unfolding installed
 installed-spec =
     tie.close (tie.spec
     (λ c κs. search needs)
-    (λ c. search steps)
-    (λ c. search steps))
+    (λ c. search cases)
+    (λ c. search cases))

@@ -1,5 +1,5 @@
 use Rattle.rules.specs.Probe.{capMet}
-use Rattle.words.proofs.Laws.{steps}
+use Rattle.choices.proofs.Cases.{cases}
 use Rattle.choices.proofs.probe.cap_met.Statement.{statement}
 use Rattle.choices.proofs.probe.cap_met.Tie as tie
 
@@ -7,4 +7,7 @@ pub cap-met-spec : {M : Type 1} → statement M
 unfolding capMet
 cap-met-spec =
     tie.close (tie.spec
-    (λ c. search steps))
+    (λ c. search cases)
+    (λ c. search cases)
+    (λ c. search cases)
+    (λ c. search cases))

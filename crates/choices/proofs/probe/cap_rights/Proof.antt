@@ -1,5 +1,5 @@
 use Rattle.rules.specs.Probe.{capRights}
-use Rattle.words.proofs.Laws.{steps}
+use Rattle.choices.proofs.Cases.{cases}
 use Rattle.choices.proofs.probe.cap_rights.Statement.{statement}
 use Rattle.choices.proofs.probe.cap_rights.Tie as tie
 
@@ -7,5 +7,7 @@ pub cap-rights-spec : {M : Type 1} → statement M
 unfolding capRights
 cap-rights-spec =
     tie.close (tie.spec
-    (λ c. search steps)
-    (λ c. search steps))
+    (λ c. search cases)
+    (λ c. search cases)
+    (λ c. search cases)
+    (λ c. search cases))

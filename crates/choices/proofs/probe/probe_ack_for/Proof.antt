@@ -1,5 +1,5 @@
 use Rattle.rules.specs.Probe.{probeAckFor}
-use Rattle.words.proofs.Laws.{steps}
+use Rattle.choices.proofs.Cases.{cases}
 use Rattle.choices.proofs.probe.probe_ack_for.Statement.{statement}
 use Rattle.choices.proofs.probe.probe_ack_for.Tie as tie
 
@@ -7,5 +7,5 @@ pub probe-ack-for-spec : {M : Type 1} → statement M
 unfolding probeAckFor
 probe-ack-for-spec =
     tie.close (tie.spec
-    (λ c. search steps)
-    (λ c. search steps))
+    (λ c. search cases)
+    (λ c. search cases))

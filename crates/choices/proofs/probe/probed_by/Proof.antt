@@ -1,5 +1,5 @@
 use Rattle.rules.specs.Probe.{probedBy}
-use Rattle.words.proofs.Laws.{steps}
+use Rattle.choices.proofs.Cases.{cases}
 use Rattle.choices.proofs.probe.probed_by.Statement.{statement}
 use Rattle.choices.proofs.probe.probed_by.Tie as tie
 
@@ -7,4 +7,7 @@ pub probed-by-spec : {M : Type 1} → statement M
 unfolding probedBy
 probed-by-spec =
     tie.close (tie.spec
-    (λ c. search steps))
+    (λ c. search cases)
+    (λ c. search cases)
+    (λ c. search cases)
+    (λ c. search cases))

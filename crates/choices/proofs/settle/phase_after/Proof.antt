@@ -1,6 +1,6 @@
 use Rattle.rules.specs.Settle.{phaseAfter}
 use borrow.Author.Needs.{needs}
-use Rattle.words.proofs.Laws.{steps}
+use Rattle.choices.proofs.Cases.{cases}
 use Rattle.choices.proofs.settle.phase_after.Statement.{statement}
 use Rattle.choices.proofs.settle.phase_after.Tie as tie
 
@@ -9,6 +9,6 @@ unfolding phaseAfter
 phase-after-spec =
     tie.close (tie.spec
     (λ c κs. search needs)
-    (λ c. search steps)
-    (λ c. search steps)
-    (λ c. search steps))
+    (λ c. search cases)
+    (λ c. search cases)
+    (λ c. search cases))

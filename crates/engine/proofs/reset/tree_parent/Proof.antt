@@ -1,9 +1,11 @@
+use Rattle.rules.specs.Step.{treeParent}
 use borrow.Author.Needs.{needs}
 use Rattle.words.proofs.Laws.{steps}
 use Rattle.engine.proofs.reset.tree_parent.Statement.{statement}
 use Rattle.engine.proofs.reset.tree_parent.Tie as tie
 
 pub tree-parent-spec : {M : Type 1} → statement M
+unfolding treeParent
 tree-parent-spec =
     tie.close (tie.spec
     (λ c. search steps)

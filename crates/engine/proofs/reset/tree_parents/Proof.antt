@@ -2,9 +2,8 @@ use mathlib.Core.Path.{_≡_}
 use Prim.Native.Nat.{_≤_, _-_}
 use Rattle.rules.specs.Codes.{nodes}
 use Rattle.words.specs.Vocab.{fill}
-use Rattle.engine.specs.Parts.{treeParent}
 use lib.ListN.{replicate}
-use Rattle.rules.specs.Step.{treeParents}
+use Rattle.rules.specs.Step.{treeParent, treeParents}
 use Rattle.words.proofs.Laws.{loops}
 use Rattle.engine.proofs.reset.tree_parents.Statement.{statement}
 use Rattle.engine.proofs.reset.tree_parents.Tie as tie

@@ -1,0 +1,12 @@
+use borrow.Author.Needs.{needs}
+use Rattle.scan.proofs.node_at.Statement.{statement}
+use Rattle.scan.proofs.node_at.Tie as tie
+
+pub node-at-spec : {M : Type 1} → statement M
+node-at-spec =
+    tie.close (tie.spec
+    (λ c κs. search needs)
+    (λ c κs. search needs)
+    (λ c κs. search needs)
+    (λ c κs. search needs)
+    (λ c. cc))

@@ -1,0 +1,16 @@
+use borrow.Author.Needs.{needs}
+use Rattle.words.proofs.Laws.{joins}
+use Rattle.scan.proofs.right_at.Statement.{statement}
+use Rattle.scan.proofs.right_at.Tie as tie
+
+pub right-at-spec : {M : Type 1} → statement M
+right-at-spec =
+    tie.close (tie.spec
+    (λ c. search needs)
+    (λ c κs. search needs)
+    (λ c κs. search needs)
+    (λ c. search needs)
+    (λ c. search needs)
+    (λ c κs. search needs)
+    (λ c κs. search needs)
+    (λ c. search joins depth 12))

@@ -1,0 +1,45 @@
+-- How an arm of a match on the kind meets the row of the table, and what is left for the kinds that the table does not have.
+use mathlib.Core.Path.{_≡_, refl, sym, subst, _∙_, ap}
+use mathlib.Core.Bool.{Bool, true, false, _||_}
+use mathlib.Core.List.{List, [], _∷_}
+use Prim.Native.Nat.{ℕ}
+use borrow.Author.Tests.{ne-eqb}
+use lib.Dec.{eqb}
+use Rattle.words.specs.Vocab.{choose}
+use Rattle.words.proofs.Facts.{neither, choose-false}
+use Rattle.words.proofs.Laws.{Rest}
+use Rattle.rules.specs.Kinds.{kindLoad, kindStore, kindLoadMiss, kindStoreMiss, kindEvict, kindSendAcquire, kindTakeAcquire, kindSendProbe, kindTakeProbe, kindSendProbeAck, kindTakeProbeAck, kindTakeGrant, kindSendGrantAck, kindSendGrant, kindTakeGrantAck, kindSendRelease, kindTakeRelease, kindSendReleaseAck, kindTakeReleaseAck}
+use Rattle.rules.specs.Table.{Kind, kinds, listed, numbered, noKind, isKind, kindOf}
+use Rattle.rules.specs.declared.Event.{Event}
+use Rattle.rules.specs.declared.Scene.{Scene}
+use Rattle.rules.specs.declared.kinds.Row.{Row}
+
+-- an arm that found the kind k
+module _ {n k : ℕ} (h : n ≡ k) where
+  pub is-at : {b : Bool} → b ≡ isKind k → b ≡ isKind n
+  is-at {b} g = subst (λ (m : ℕ). b ≡ isKind m) (sym h) g
+
+  pub row-at : {r : Row} → r ≡ kindOf k .row → r ≡ kindOf n .row
+  row-at {r} g = subst (λ (m : ℕ). r ≡ kindOf m .row) (sym h) g
+
+  pub needs-at : {b : Bool} (v : Scene) (e : Event) → b ≡ kindOf k .needs v e → b ≡ kindOf n .needs v e
+  needs-at {b} v e g = subst (λ (m : ℕ). b ≡ kindOf m .needs v e) (sym h) g
+
+  pub does-at : {w : Scene} (v : Scene) (e : Event) → w ≡ kindOf k .does v e → w ≡ kindOf n .does v e
+  does-at {w} v e g = subst (λ (m : ℕ). w ≡ kindOf m .does v e) (sym h) g
+
+  pub says-at : {x : ℕ} (v : Scene) → x ≡ kindOf k .says v → x ≡ kindOf n .says v
+  says-at {x} v g = subst (λ (m : ℕ). x ≡ kindOf m .says v) (sym h) g
+
+-- no arm found it
+pub unlisted : (n : ℕ) → Rest n 19 → isKind n ≡ false
+unfolding listed
+unlisted n r = rw (ne-eqb n kindLoad (r .0 .0 .0 .0 .0 .0 .0 .0 .0 .0 .0 .0 .0 .0 .0 .0 .0 .0 .1), ne-eqb n kindStore (r .0 .0 .0 .0 .0 .0 .0 .0 .0 .0 .0 .0 .0 .0 .0 .0 .0 .1), ne-eqb n kindLoadMiss (r .0 .0 .0 .0 .0 .0 .0 .0 .0 .0 .0 .0 .0 .0 .0 .0 .1), ne-eqb n kindStoreMiss (r .0 .0 .0 .0 .0 .0 .0 .0 .0 .0 .0 .0 .0 .0 .0 .1), ne-eqb n kindEvict (r .0 .0 .0 .0 .0 .0 .0 .0 .0 .0 .0 .0 .0 .0 .1), ne-eqb n kindSendAcquire (r .0 .0 .0 .0 .0 .0 .0 .0 .0 .0 .0 .0 .0 .1), ne-eqb n kindTakeAcquire (r .0 .0 .0 .0 .0 .0 .0 .0 .0 .0 .0 .0 .1), ne-eqb n kindSendProbe (r .0 .0 .0 .0 .0 .0 .0 .0 .0 .0 .0 .1), ne-eqb n kindTakeProbe (r .0 .0 .0 .0 .0 .0 .0 .0 .0 .0 .1), ne-eqb n kindSendProbeAck (r .0 .0 .0 .0 .0 .0 .0 .0 .0 .1), ne-eqb n kindTakeProbeAck (r .0 .0 .0 .0 .0 .0 .0 .0 .1), ne-eqb n kindTakeGrant (r .0 .0 .0 .0 .0 .0 .0 .1), ne-eqb n kindSendGrantAck (r .0 .0 .0 .0 .0 .0 .1), ne-eqb n kindSendGrant (r .0 .0 .0 .0 .0 .1), ne-eqb n kindTakeGrantAck (r .0 .0 .0 .0 .1), ne-eqb n kindSendRelease (r .0 .0 .0 .1), ne-eqb n kindTakeRelease (r .0 .0 .1), ne-eqb n kindSendReleaseAck (r .0 .1), ne-eqb n kindTakeReleaseAck (r .1))
+
+numbered-off : (ks : List Kind) (n : ℕ) → listed ks n ≡ false → numbered ks n ≡ noKind
+unfolding listed numbered
+numbered-off [] n h = refl
+numbered-off (k ∷ ks) n h = let u = neither (eqb n (k .number)) (listed ks n) h in choose-false _ _ (u .0) ∙ numbered-off ks n (u .1)
+
+pub no-kind : (n : ℕ) → Rest n 19 → kindOf n ≡ noKind
+no-kind n r = numbered-off kinds n (unlisted n r)

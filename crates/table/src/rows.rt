@@ -1,0 +1,220 @@
+// The event table: what each kind's row says beside its needs and its effect (document 01, "Events").
+ghost use mathlib.Core.Path.{_≡_};
+ghost use Rattle.rules.specs.Table.{isKind, kindOf, row};
+use rules::Event;
+use rules::kinds::End;
+use rules::kinds::Other;
+use rules::kinds::Place;
+use rules::kinds::Probes;
+use rules::kinds::Row;
+use rules::kinds::Settles;
+use rules::kinds::Value;
+
+fn row(place: Place, other: Other, value: Value, end: End, probes: Probes, settles: Settles) -> Row
+    ensures { λ r. ⌜ r ≡ row place other value end probes settles ⌝ }
+{
+    Row {
+        place,
+        other,
+        value,
+        end,
+        probes,
+        settles,
+    }
+}
+
+// "kind not 1..19": a number that no row has.
+pub fn is_kind(kind: u8) -> bool
+    ensures { λ r. ⌜ r ≡ isKind kind ⌝ }
+{
+    match kind {
+        Event::LOAD => true,
+        Event::STORE => true,
+        Event::LOAD_MISS => true,
+        Event::STORE_MISS => true,
+        Event::EVICT => true,
+        Event::SEND_ACQUIRE => true,
+        Event::TAKE_ACQUIRE => true,
+        Event::SEND_PROBE => true,
+        Event::TAKE_PROBE => true,
+        Event::SEND_PROBE_ACK => true,
+        Event::TAKE_PROBE_ACK => true,
+        Event::TAKE_GRANT => true,
+        Event::SEND_GRANT_ACK => true,
+        Event::SEND_GRANT => true,
+        Event::TAKE_GRANT_ACK => true,
+        Event::SEND_RELEASE => true,
+        Event::TAKE_RELEASE => true,
+        Event::SEND_RELEASE_ACK => true,
+        Event::TAKE_RELEASE_ACK => true,
+        _ => false,
+    }
+}
+
+// The row of the kind; no kind has the row of noKind.
+pub fn row_of(kind: u8) -> Row
+    ensures { λ r. ⌜ r ≡ kindOf kind .row ⌝ }
+{
+    match kind {
+        Event::LOAD => row(
+            Place::AtLeaf,
+            Other::NoOther,
+            Value::NoValue,
+            End::Own,
+            Probes::Stay,
+            Settles::Never,
+        ),
+        Event::STORE => row(
+            Place::AtLeaf,
+            Other::NoOther,
+            Value::AnyValue,
+            End::Own,
+            Probes::Stay,
+            Settles::Never,
+        ),
+        Event::LOAD_MISS => row(
+            Place::AtLeaf,
+            Other::NoOther,
+            Value::NoValue,
+            End::Own,
+            Probes::Stay,
+            Settles::Never,
+        ),
+        Event::STORE_MISS => row(
+            Place::AtLeaf,
+            Other::NoOther,
+            Value::NoValue,
+            End::Own,
+            Probes::Stay,
+            Settles::Never,
+        ),
+        Event::EVICT => row(
+            Place::BelowRoot,
+            Other::NoOther,
+            Value::NoValue,
+            End::Own,
+            Probes::Held,
+            Settles::Anew,
+        ),
+        Event::SEND_ACQUIRE => row(
+            Place::BelowRoot,
+            Other::NoOther,
+            Value::NoValue,
+            End::Own,
+            Probes::Stay,
+            Settles::Never,
+        ),
+        Event::TAKE_ACQUIRE => row(
+            Place::Anywhere,
+            Other::AChild,
+            Value::NoValue,
+            End::Named,
+            Probes::Asked,
+            Settles::Anew,
+        ),
+        Event::SEND_PROBE => row(
+            Place::Anywhere,
+            Other::AChild,
+            Value::NoValue,
+            End::Named,
+            Probes::Stay,
+            Settles::Never,
+        ),
+        Event::TAKE_PROBE => row(
+            Place::BelowRoot,
+            Other::NoOther,
+            Value::NoValue,
+            End::Own,
+            Probes::Capped,
+            Settles::Never,
+        ),
+        Event::SEND_PROBE_ACK => row(
+            Place::BelowRoot,
+            Other::NoOther,
+            Value::NoValue,
+            End::Own,
+            Probes::Stay,
+            Settles::Never,
+        ),
+        Event::TAKE_PROBE_ACK => row(
+            Place::Anywhere,
+            Other::AChild,
+            Value::NoValue,
+            End::Named,
+            Probes::Stay,
+            Settles::Again,
+        ),
+        Event::TAKE_GRANT => row(
+            Place::BelowRoot,
+            Other::NoOther,
+            Value::NoValue,
+            End::Own,
+            Probes::Stay,
+            Settles::Never,
+        ),
+        Event::SEND_GRANT_ACK => row(
+            Place::BelowRoot,
+            Other::NoOther,
+            Value::NoValue,
+            End::Own,
+            Probes::Stay,
+            Settles::Never,
+        ),
+        Event::SEND_GRANT => row(
+            Place::AboveLeaf,
+            Other::AChoice,
+            Value::NoValue,
+            End::Requester,
+            Probes::Stay,
+            Settles::Never,
+        ),
+        Event::TAKE_GRANT_ACK => row(
+            Place::AboveLeaf,
+            Other::NoOther,
+            Value::NoValue,
+            End::Requester,
+            Probes::Stay,
+            Settles::Never,
+        ),
+        Event::SEND_RELEASE => row(
+            Place::BelowRoot,
+            Other::NoOther,
+            Value::NoValue,
+            End::Own,
+            Probes::Stay,
+            Settles::Never,
+        ),
+        Event::TAKE_RELEASE => row(
+            Place::Anywhere,
+            Other::AChild,
+            Value::NoValue,
+            End::Named,
+            Probes::Stay,
+            Settles::Again,
+        ),
+        Event::SEND_RELEASE_ACK => row(
+            Place::AboveLeaf,
+            Other::NoOther,
+            Value::NoValue,
+            End::Noted,
+            Probes::Stay,
+            Settles::Never,
+        ),
+        Event::TAKE_RELEASE_ACK => row(
+            Place::BelowRoot,
+            Other::NoOther,
+            Value::NoValue,
+            End::Own,
+            Probes::Stay,
+            Settles::Never,
+        ),
+        _ => row(
+            Place::Anywhere,
+            Other::NoOther,
+            Value::NoValue,
+            End::Own,
+            Probes::Stay,
+            Settles::Never,
+        ),
+    }
+}
