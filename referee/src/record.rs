@@ -2,8 +2,11 @@
 
 use crate::tree::{Tree, NODES};
 
-/// The bytes of a record.
-pub const RECORD_BYTES: usize = 1 + 2 * NODES + 3 * NODES * NODES + (15 + 22) * NODES;
+/// The bytes of a node's own fields, of a link's, and of a record.
+pub const NODE_BYTES: usize = 15;
+pub const LINK_BYTES: usize = 22;
+pub const RECORD_BYTES: usize =
+    1 + 2 * NODES + 3 * NODES * NODES + (NODE_BYTES + LINK_BYTES) * NODES;
 
 /// One row for each node, one cell for each node.
 pub type Rows<T> = [[T; NODES]; NODES];
