@@ -34,15 +34,31 @@ fn full_slot(link: &LinkRecord) -> bool {
     [link.a, link.b, link.c, link.d, link.e] != [0; 5]
 }
 
+/// A field that is not zero at this node, apart from the slots. Every field is named, so that none is forgotten.
 fn field_beyond(record: &Record, node: usize) -> bool {
-    let link = &record.links[node];
-    record.parents[node] != 0
-        || record.rights[node] != 0
-        || record.entries[node] != [0; NODES]
-        || record.to_probe[node].contains(&true)
-        || record.pending[node].contains(&true)
-        || record.nodes[node] != NodeRecord::default()
-        || link.kept != 0
-        || link.up != 0
-        || link.down != 0
+    let Record {
+        count: _,
+        parents,
+        rights,
+        entries,
+        to_probe,
+        pending,
+        nodes,
+        links,
+    } = record;
+    let beside_slots = LinkRecord {
+        a: 0,
+        b: 0,
+        c: 0,
+        d: 0,
+        e: 0,
+        ..links[node]
+    };
+    parents[node] != 0
+        || rights[node] != 0
+        || entries[node] != [0; NODES]
+        || to_probe[node].contains(&true)
+        || pending[node].contains(&true)
+        || nodes[node] != NodeRecord::default()
+        || beside_slots != LinkRecord::default()
 }

@@ -39,18 +39,18 @@ fn messages(old: &Link, new: &Link, peer: usize) -> Vec<String> {
 
 /// The five slots of a link in words.
 fn slots(link: &Link) -> [Option<String>; 5] {
+    let Link { a, b, c, d, e } = *link;
     let with = |data: Option<u64>| data.map_or(String::new(), |value| format!(" with {value}"));
     [
-        link.a.map(|message| format!("{message:?}")),
-        link.b.map(|cap| cap.message().to_string()),
-        link.c.map(|message| {
+        a.map(|message| format!("{message:?}")),
+        b.map(|cap| cap.message().to_string()),
+        c.map(|message| {
             let kept = message.kept().map(|kept| format!(" (kept {kept:?})"));
             let kept = kept.unwrap_or_default();
             format!("{:?}{kept}{}", message.code(), with(message.data()))
         }),
-        link.d
-            .map(|message| format!("{:?}{}", message.code(), with(message.data()))),
-        link.e.map(|message| format!("{message:?}")),
+        d.map(|message| format!("{:?}{}", message.code(), with(message.data()))),
+        e.map(|message| format!("{message:?}")),
     ]
 }
 

@@ -30,10 +30,10 @@ pub struct ByPurpose {
     pub evict: Further,
 }
 
-/// Nothing where the row doesn't speak of a purpose that it goes by: its needs never hold then.
+/// Nothing for a purpose that the row doesn't name: its needs never hold then.
 pub type Further = Option<&'static [Need]>;
 
-/// For a row that doesn't go by the purpose.
+/// For a row that names no purpose and so asks the same of all.
 pub const ANY_PURPOSE: ByPurpose = ByPurpose {
     none: Some(&[]),
     load: Some(&[]),
@@ -41,7 +41,7 @@ pub const ANY_PURPOSE: ByPurpose = ByPurpose {
     evict: Some(&[]),
 };
 
-/// For a row that speaks of load and of store.
+/// For a row that names load and store.
 pub const fn load_or_store(load: &'static [Need], store: &'static [Need]) -> ByPurpose {
     ByPurpose {
         none: None,
@@ -51,8 +51,8 @@ pub const fn load_or_store(load: &'static [Need], store: &'static [Need]) -> ByP
     }
 }
 
-/// What is missing where the row doesn't speak of the purpose.
-const PURPOSE: &str = "a purpose that its row speaks of";
+/// What is missing for a purpose that the row doesn't name.
+const PURPOSE: &str = "a purpose that its row names";
 
 impl ByPurpose {
     fn of(&self, purpose: Option<Purpose>) -> Further {
@@ -70,9 +70,9 @@ impl Rule {
     pub fn missing(&self, scene: &Scene) -> Option<&'static str> {
         let further = self.by_purpose.of(scene.purpose());
         let needs = self.needs.iter().chain(further.unwrap_or_default());
-        let unspoken = further.is_none().then_some(PURPOSE);
+        let unnamed = further.is_none().then_some(PURPOSE);
         let mut failing = needs.filter(|need| !(need.holds)(scene));
-        failing.next().map(|need| need.words).or(unspoken)
+        failing.next().map(|need| need.words).or(unnamed)
     }
 
     /// Every need in the row's order, and whether it is one for this purpose.

@@ -63,13 +63,13 @@ impl Scene<'_> {
         self.node().entries[self.act.other]
     }
 
-    /// The link of the requester, where there is one.
+    /// The link of the requester. Number 2 sees to it that there is one in Give and in Await.
     pub fn requester_link(&self) -> Option<&Link> {
         let requester = self.node().requester?;
         Some(&self.configuration.links[requester])
     }
 
-    /// The link of the child to acknowledge, where there is one.
+    /// The link of the child to acknowledge, where the release is open.
     pub fn release_link(&self) -> Option<&Link> {
         let child = self.node().release?;
         Some(&self.configuration.links[child])

@@ -88,7 +88,7 @@ fn places() {
     assert_eq!(numbers(&[14, 15, 18], 0), [5; 3]);
 }
 
-/// Number 2 refuses these purposes in these phases. A row that speaks of load and store still refuses them itself.
+/// Number 2 refuses these purposes in these phases. A row that names load and store still refuses them itself.
 #[test]
 fn needs_hold_for_no_other_purpose() {
     for (phase, event) in [
