@@ -14,15 +14,15 @@ pub fn candidates(tree: &Tree) -> Vec<Event> {
     let mut events = Vec::new();
     for &kind in Kind::ALL {
         for node in tree.nodes() {
-            let others: Vec<usize> = match kind.row().other {
-                Other::Child(_) => tree.children(node).collect(),
-                Other::Choice => (0..Choice::ALL.len()).collect(),
+            let others: Vec<u8> = match kind.row().other {
+                Other::Child(_) => tree.children(node).map(|child| child as u8).collect(),
+                Other::Choice => Choice::ALL.iter().map(|choice| choice.code()).collect(),
                 Other::Zero => vec![0],
             };
             events.extend(others.into_iter().map(|other| Event {
                 kind: kind.code(),
                 node: node as u8,
-                other: other as u8,
+                other,
                 value: 0,
             }));
         }
@@ -141,18 +141,19 @@ pub fn any(random: &mut Random, tree: &Tree) -> Event {
     let other = match kind.row().other {
         Other::Child(_) => {
             let children: Vec<usize> = tree.children(node).collect();
-            match children.is_empty() {
+            let child = match children.is_empty() {
                 true => random.below(tree.count()),
                 false => random.pick(&children),
-            }
+            };
+            child as u8
         }
-        Other::Choice => random.below(Choice::ALL.len()),
+        Other::Choice => random.pick(Choice::ALL).code(),
         Other::Zero => 0,
     };
     let mut event = Event {
         kind: kind.code(),
         node: node as u8,
-        other: other as u8,
+        other,
         value: value(random, kind),
     };
     if random.percent(33) {
