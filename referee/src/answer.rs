@@ -1,13 +1,15 @@
 //! The row of requests that the program `answer` reads, and the row of answers (docs/FORMAT.md).
 
 use crate::event::{Event, EVENT_BYTES};
+use crate::lists::coded;
 use crate::record::{Record, RECORD_BYTES};
 use crate::step::{reset, step, step_without_number_2, Answer};
 use crate::tree::NODES;
 
-const RESET: u8 = 1;
-const STEP: u8 = 2;
-const STEP_WITHOUT_NUMBER_2: u8 = 3;
+coded! {
+    /// What the first byte of a request asks for.
+    Asks { Reset = 1, Step = 2, StepWithoutNumber2 = 3 }
+}
 
 const RESET_BYTES: usize = 1 + NODES + 8;
 const STEP_BYTES: usize = RECORD_BYTES + EVENT_BYTES;
@@ -38,7 +40,7 @@ impl Request {
                 parents,
                 first_value,
             } => {
-                bytes.extend([RESET, *count]);
+                bytes.extend([Asks::Reset.code(), *count]);
                 bytes.extend(parents);
                 bytes.extend(first_value.to_be_bytes());
             }
@@ -47,11 +49,12 @@ impl Request {
                 event,
                 tests_number_2,
             } => {
-                bytes.push(if *tests_number_2 {
-                    STEP
+                let asks = if *tests_number_2 {
+                    Asks::Step
                 } else {
-                    STEP_WITHOUT_NUMBER_2
-                });
+                    Asks::StepWithoutNumber2
+                };
+                bytes.push(asks.code());
                 record.write_to(&mut bytes);
                 bytes.extend(event.to_bytes());
             }
@@ -62,8 +65,9 @@ impl Request {
     /// The request at the front of the input, and what follows it.
     pub fn split_first(input: &[u8]) -> Option<(Request, &[u8])> {
         let (&first, rest) = input.split_first()?;
-        match first {
-            RESET => {
+        let asks = Asks::from_code(first)?;
+        match asks {
+            Asks::Reset => {
                 let (body, rest) = rest.split_at_checked(RESET_BYTES)?;
                 let (parents, value) = body[1..].split_first_chunk::<NODES>()?;
                 let request = Request::Reset {
@@ -73,17 +77,16 @@ impl Request {
                 };
                 Some((request, rest))
             }
-            STEP | STEP_WITHOUT_NUMBER_2 => {
+            Asks::Step | Asks::StepWithoutNumber2 => {
                 let (body, rest) = rest.split_at_checked(STEP_BYTES)?;
                 let (record, event) = body.split_last_chunk::<EVENT_BYTES>()?;
                 let request = Request::Step {
                     record: Box::new(Record::from_bytes(record)?),
                     event: Event::from_bytes(event),
-                    tests_number_2: first == STEP,
+                    tests_number_2: asks == Asks::Step,
                 };
                 Some((request, rest))
             }
-            _ => None,
         }
     }
 
@@ -100,7 +103,11 @@ impl Request {
                 event,
                 tests_number_2: true,
             } => Some(step(record, event)),
-            Request::Step { record, event, .. } => step_without_number_2(record, event),
+            Request::Step {
+                record,
+                event,
+                tests_number_2: false,
+            } => step_without_number_2(record, event),
         }
     }
 }

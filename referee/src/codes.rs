@@ -1,25 +1,7 @@
-//! The lists of document 01 with their codes, as docs/FORMAT.md sets them out.
+//! The lists of document 01 with their codes, as docs/FORMAT.md sets them out. What a code means for a rule is a
+//! match on every case, so that a new case is missed nowhere.
 
-/// An enum whose every case has a code.
-macro_rules! coded {
-    ($(#[$doc:meta])* $name:ident { $($case:ident = $code:literal),+ $(,)? }) => {
-        $(#[$doc])*
-        #[derive(Clone, Copy, Debug, PartialEq, Eq, PartialOrd, Ord)]
-        pub enum $name { $($case = $code),+ }
-
-        impl $name {
-            pub const ALL: &'static [$name] = &[$($name::$case),+];
-
-            pub fn code(self) -> u8 {
-                self as u8
-            }
-
-            pub fn from_code(code: u8) -> Option<$name> {
-                Self::ALL.iter().copied().find(|case| case.code() == code)
-            }
-        }
-    };
-}
+use crate::lists::coded;
 
 coded! {
     /// The rights of a node, the lowest first.
@@ -64,40 +46,13 @@ coded! {
 }
 
 coded! {
-    /// The kinds of event, in the order of the event table.
-    Kind {
-        Load = 1,
-        Store = 2,
-        LoadMiss = 3,
-        StoreMiss = 4,
-        Evict = 5,
-        SendAcquire = 6,
-        TakeAcquire = 7,
-        SendProbe = 8,
-        TakeProbe = 9,
-        SendProbeAck = 10,
-        TakeProbeAck = 11,
-        TakeGrant = 12,
-        SendGrantAck = 13,
-        SendGrant = 14,
-        TakeGrantAck = 15,
-        SendRelease = 16,
-        TakeRelease = 17,
-        SendReleaseAck = 18,
-        TakeReleaseAck = 19,
-    }
+    /// The message in slot E.
+    Confirmation { GrantAck = 1 }
 }
 
-/// The code of a full slot E.
-pub const GRANT_ACK: u8 = 1;
-
-impl Cap {
-    pub fn rights(self) -> Rights {
-        match self {
-            Cap::B => Rights::B,
-            Cap::N => Rights::N,
-        }
-    }
+coded! {
+    /// The "other" of kind 14.
+    Choice { Shared = 0, Sole = 1 }
 }
 
 impl Rights {
@@ -109,47 +64,112 @@ impl Rights {
             Rights::Tip => Entry::Trunk,
         }
     }
+
+    /// A ProbeAck has kept rights N or B.
+    pub fn may_be_kept(self) -> bool {
+        match self {
+            Rights::N | Rights::B => true,
+            Rights::Tip => false,
+        }
+    }
+}
+
+impl Phase {
+    /// The phases of an eviction.
+    pub fn may_evict(self) -> bool {
+        match self {
+            Phase::Clear | Phase::LetGo | Phase::Leaving => true,
+            Phase::Idle
+            | Phase::Ask
+            | Phase::Wait
+            | Phase::Confirm
+            | Phase::Give
+            | Phase::Await => false,
+        }
+    }
+
+    /// The phases of an eviction alone.
+    pub fn must_evict(self) -> bool {
+        match self {
+            Phase::LetGo | Phase::Leaving => true,
+            Phase::Idle
+            | Phase::Clear
+            | Phase::Ask
+            | Phase::Wait
+            | Phase::Confirm
+            | Phase::Give
+            | Phase::Await => false,
+        }
+    }
+
+    /// The phases in which a node serves a child, so that a leaf has none of them.
+    pub fn serves_child(self) -> bool {
+        match self {
+            Phase::Give | Phase::Await => true,
+            Phase::Idle
+            | Phase::Clear
+            | Phase::Ask
+            | Phase::Wait
+            | Phase::Confirm
+            | Phase::LetGo
+            | Phase::Leaving => false,
+        }
+    }
+}
+
+impl Purpose {
+    /// The purposes for which a non-leaf has a requester.
+    pub fn has_requester(self) -> bool {
+        match self {
+            Purpose::Load | Purpose::Store => true,
+            Purpose::Evict => false,
+        }
+    }
+
+    /// None, and every purpose.
+    pub fn or_none() -> impl Iterator<Item = Option<Purpose>> {
+        std::iter::once(None).chain(Purpose::ALL.iter().copied().map(Some))
+    }
+}
+
+impl Cap {
+    pub fn rights(self) -> Rights {
+        match self {
+            Cap::B => Rights::B,
+            Cap::N => Rights::N,
+        }
+    }
+
+    /// The message in slot B with this cap.
+    pub fn message(self) -> &'static str {
+        match self {
+            Cap::B => "ProbeB",
+            Cap::N => "ProbeN",
+        }
+    }
 }
 
 impl UpCode {
     pub fn carries_data(self) -> bool {
-        matches!(self, UpCode::ProbeAckData | UpCode::ReleaseData)
+        match self {
+            UpCode::ProbeAckData | UpCode::ReleaseData => true,
+            UpCode::ProbeAck | UpCode::Release => false,
+        }
     }
 
     pub fn is_probe_ack(self) -> bool {
-        matches!(self, UpCode::ProbeAck | UpCode::ProbeAckData)
+        match self {
+            UpCode::ProbeAck | UpCode::ProbeAckData => true,
+            UpCode::Release | UpCode::ReleaseData => false,
+        }
     }
 }
 
 impl DownCode {
     pub fn carries_data(self) -> bool {
-        matches!(self, DownCode::GrantDataT | DownCode::GrantDataB)
-    }
-}
-
-impl Kind {
-    /// The name in the event table.
-    pub fn title(self) -> &'static str {
         match self {
-            Kind::Load => "load",
-            Kind::Store => "store",
-            Kind::LoadMiss => "load miss",
-            Kind::StoreMiss => "store miss",
-            Kind::Evict => "evict",
-            Kind::SendAcquire => "send Acquire",
-            Kind::TakeAcquire => "take Acquire",
-            Kind::SendProbe => "send Probe",
-            Kind::TakeProbe => "take Probe",
-            Kind::SendProbeAck => "send ProbeAck",
-            Kind::TakeProbeAck => "take ProbeAck",
-            Kind::TakeGrant => "take Grant",
-            Kind::SendGrantAck => "send GrantAck",
-            Kind::SendGrant => "send Grant",
-            Kind::TakeGrantAck => "take GrantAck",
-            Kind::SendRelease => "send Release",
-            Kind::TakeRelease => "take Release",
-            Kind::SendReleaseAck => "send ReleaseAck",
-            Kind::TakeReleaseAck => "take ReleaseAck",
+            DownCode::GrantDataT | DownCode::GrantDataB => true,
+            DownCode::GrantT | DownCode::ReleaseAck => false,
         }
     }
 }

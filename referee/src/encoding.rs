@@ -1,8 +1,10 @@
 //! A configuration as a record, and back where the record is one.
 
 use crate::clauses::{breaches, Clause};
-use crate::codes::{Acquire, Cap, DownCode, Entry, Phase, Purpose, Rights, UpCode, GRANT_ACK};
-use crate::configuration::{Configuration, Down, Link, Node, Up};
+use crate::codes::{Acquire, Cap, Confirmation, DownCode, Entry, Phase, Purpose, Rights, UpCode};
+use crate::configuration::Configuration;
+use crate::link::{Down, Link, Up};
+use crate::node::Node;
 use crate::record::{LinkRecord, NodeRecord, Record};
 use crate::tree::Tree;
 
@@ -58,14 +60,11 @@ fn encoded_link(link: &Link) -> LinkRecord {
         a: link.a.map_or(0, Acquire::code),
         b: link.b.map_or(0, Cap::code),
         c: link.c.map_or(0, |message| message.code().code()),
-        kept: match link.c {
-            Some(Up::ProbeAck { kept, .. }) => kept.code(),
-            _ => 0,
-        },
+        kept: link.c.and_then(Up::kept).map_or(0, Rights::code),
         up: link.c.and_then(Up::data).unwrap_or(0),
         d: link.d.map_or(0, |message| message.code().code()),
         down: link.d.and_then(Down::data).unwrap_or(0),
-        e: if link.e { GRANT_ACK } else { 0 },
+        e: link.e.map_or(0, Confirmation::code),
     }
 }
 
@@ -88,23 +87,12 @@ fn decoded_node(record: &Record, node: usize) -> Node {
 
 fn decoded_link(from: &LinkRecord) -> Link {
     let kept = Rights::from_code(from.kept).expect("kept rights");
-    let data = Some(from.up);
     Link {
         a: Acquire::from_code(from.a),
         b: Cap::from_code(from.b),
-        c: UpCode::from_code(from.c).map(|code| match code {
-            UpCode::ProbeAck => Up::ProbeAck { kept, data: None },
-            UpCode::ProbeAckData => Up::ProbeAck { kept, data },
-            UpCode::Release => Up::Release { data: None },
-            UpCode::ReleaseData => Up::Release { data },
-        }),
-        d: DownCode::from_code(from.d).map(|code| match code {
-            DownCode::GrantT => Down::GrantT,
-            DownCode::GrantDataT => Down::GrantDataT(from.down),
-            DownCode::GrantDataB => Down::GrantDataB(from.down),
-            DownCode::ReleaseAck => Down::ReleaseAck,
-        }),
-        e: from.e == GRANT_ACK,
+        c: UpCode::from_code(from.c).map(|code| Up::of(code, kept, from.up)),
+        d: DownCode::from_code(from.d).map(|code| Down::of(code, from.down)),
+        e: Confirmation::from_code(from.e),
     }
 }
 

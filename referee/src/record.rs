@@ -2,8 +2,11 @@
 
 use crate::tree::{Tree, NODES};
 
-/// The bytes of a record.
-pub const RECORD_BYTES: usize = 1 + 2 * NODES + 3 * NODES * NODES + (15 + 22) * NODES;
+/// The bytes of a node's own fields, of a link's, and of a record.
+pub const NODE_BYTES: usize = 15;
+pub const LINK_BYTES: usize = 22;
+pub const RECORD_BYTES: usize =
+    1 + 2 * NODES + 3 * NODES * NODES + (NODE_BYTES + LINK_BYTES) * NODES;
 
 /// One row for each node, one cell for each node.
 pub type Rows<T> = [[T; NODES]; NODES];
@@ -103,18 +106,37 @@ impl Record {
         bytes.extend(self.entries.as_flattened());
         bytes.extend(self.to_probe.iter().flatten().map(|&flag| u8::from(flag)));
         bytes.extend(self.pending.iter().flatten().map(|&flag| u8::from(flag)));
-        for node in &self.nodes {
-            bytes.push(u8::from(node.dirty));
-            bytes.extend(node.value.to_be_bytes());
-            bytes.extend([node.phase, node.purpose, node.requester]);
-            bytes.extend([u8::from(node.probe), node.cap, node.release]);
+        for &NodeRecord {
+            dirty,
+            value,
+            phase,
+            purpose,
+            requester,
+            probe,
+            cap,
+            release,
+        } in &self.nodes
+        {
+            bytes.push(u8::from(dirty));
+            bytes.extend(value.to_be_bytes());
+            bytes.extend([phase, purpose, requester, u8::from(probe), cap, release]);
         }
-        for link in &self.links {
-            bytes.extend([link.a, link.b, link.c, link.kept]);
-            bytes.extend(link.up.to_be_bytes());
-            bytes.push(link.d);
-            bytes.extend(link.down.to_be_bytes());
-            bytes.push(link.e);
+        for &LinkRecord {
+            a,
+            b,
+            c,
+            kept,
+            up,
+            d,
+            down,
+            e,
+        } in &self.links
+        {
+            bytes.extend([a, b, c, kept]);
+            bytes.extend(up.to_be_bytes());
+            bytes.push(d);
+            bytes.extend(down.to_be_bytes());
+            bytes.push(e);
         }
     }
 }

@@ -1,62 +1,12 @@
-//! The step: the first number that applies, and the next configuration where that is 0.
+//! The step: the first number that applies, and the next configuration where none refuses.
 
-use crate::clauses::Clause;
-use crate::codes::Kind;
 use crate::configuration::Configuration;
-use crate::event::{Event, Fault, Place};
+use crate::event::Event;
+use crate::judge::{configuration_of, judged};
+use crate::kinds::Answers;
 use crate::record::Record;
-use crate::rules::{rule, Scene};
+use crate::refusal::{Number, Refusal};
 use crate::tree::{Tree, NODES};
-use std::fmt;
-
-/// Why an event is refused.
-#[derive(Clone, Debug, PartialEq, Eq)]
-pub enum Refusal {
-    BadTree,
-    NotAConfiguration(Vec<Clause>),
-    BadEvent(Fault),
-    WrongPlace(Kind),
-    /// The first of the kind's needs that doesn't hold, in the table's words.
-    Need(&'static str),
-}
-
-/// The number of an accepted event.
-pub const ACCEPTED: u8 = 0;
-
-impl Refusal {
-    pub fn number(&self) -> u8 {
-        match self {
-            Refusal::BadTree => 1,
-            Refusal::NotAConfiguration(_) => 2,
-            Refusal::BadEvent(_) => 3,
-            Refusal::WrongPlace(_) => 4,
-            Refusal::Need(_) => 5,
-        }
-    }
-}
-
-impl fmt::Display for Refusal {
-    fn fmt(&self, f: &mut fmt::Formatter) -> fmt::Result {
-        match self {
-            Refusal::BadTree => write!(f, "the tree is bad"),
-            Refusal::NotAConfiguration(clauses) => {
-                let words: Vec<_> = clauses.iter().map(|clause| clause.words()).collect();
-                write!(f, "not a configuration: {}", words.join("; "))
-            }
-            Refusal::BadEvent(Fault::Kind) => write!(f, "kind not 1..19"),
-            Refusal::BadEvent(Fault::Node) => write!(f, "node not in the tree"),
-            Refusal::BadEvent(Fault::Other) => write!(f, "other not as named for this kind"),
-            Refusal::BadEvent(Fault::Value) => write!(f, "value not 0 where it must be"),
-            Refusal::WrongPlace(kind) => match kind.place() {
-                Place::Leaf => write!(f, "this kind doesn't happen at a non-leaf"),
-                Place::NotRoot => write!(f, "this kind doesn't happen at the root"),
-                Place::NotLeaf => write!(f, "this kind doesn't happen at a leaf"),
-                Place::Anywhere => write!(f, "this kind doesn't happen here"),
-            },
-            Refusal::Need(words) => write!(f, "the kind's needs don't hold; it needs \"{words}\""),
-        }
-    }
-}
 
 /// An accepted step.
 #[derive(Clone, Debug, PartialEq, Eq)]
@@ -66,25 +16,30 @@ pub struct Step {
     pub value: u64,
 }
 
+/// What comes of an event.
+pub type Outcome = Result<Step, Refusal>;
+
 impl Configuration {
-    /// Numbers 3 to 5, then the effect.
-    pub fn step(&self, event: &Event) -> Result<Step, Refusal> {
-        let act = event.act(&self.tree)?;
-        let rule = rule(act.kind);
-        let scene = Scene::new(self, act);
-        if let Some(need) = rule.needs.iter().find(|need| !(need.holds)(&scene)) {
-            return Err(Refusal::Need(need.words));
-        }
-        let value = match act.kind {
-            Kind::Load => self.nodes[act.node].value,
-            _ => 0,
+    /// Numbers 3 upward, then the effect.
+    pub fn step(&self, event: &Event) -> Outcome {
+        let (row, act) = judged(self, event)?;
+        let value = match row.answers {
+            Answers::TheValue => self.nodes[act.node].value,
+            Answers::Zero => 0,
         };
         let mut configuration = self.clone();
-        (rule.effect)(&mut configuration, &act);
+        (row.rule.effect)(&mut configuration, &act);
         Ok(Step {
             configuration,
             value,
         })
+    }
+}
+
+pub fn number(outcome: &Outcome) -> Number {
+    match outcome {
+        Ok(_) => Number::Accepted,
+        Err(refusal) => refusal.number(),
     }
 }
 
@@ -97,10 +52,18 @@ pub struct Answer {
 }
 
 impl Answer {
+    fn accepted(configuration: &Configuration, value: u64) -> Answer {
+        Answer {
+            number: Number::Accepted.code(),
+            value,
+            record: configuration.to_record(),
+        }
+    }
+
     /// A refusal returns value 0 and the configuration unchanged, bad ones included.
     fn refused(refusal: &Refusal, record: &Record) -> Answer {
         Answer {
-            number: refusal.number(),
+            number: refusal.number().code(),
             value: 0,
             record: record.clone(),
         }
@@ -110,29 +73,15 @@ impl Answer {
 /// The reset. A bad tree gives number 1 and an all-zero record.
 pub fn reset(count: u8, parents: &[u8; NODES], first_value: u64) -> Answer {
     match Tree::new(count, parents) {
-        Some(tree) => Answer {
-            number: ACCEPTED,
-            value: 0,
-            record: Configuration::reset(tree, first_value).to_record(),
-        },
+        Some(tree) => Answer::accepted(&Configuration::reset(tree, first_value), 0),
         None => Answer::refused(&Refusal::BadTree, &Record::default()),
     }
-}
-
-/// Numbers 1 and 2: the configuration that a record holds.
-pub fn configuration_of(record: &Record) -> Result<Configuration, Refusal> {
-    let tree = record.tree().ok_or(Refusal::BadTree)?;
-    Configuration::from_record(tree, record).map_err(Refusal::NotAConfiguration)
 }
 
 /// The step of a record, with all its numbers.
 pub fn step(record: &Record, event: &Event) -> Answer {
     match configuration_of(record).and_then(|configuration| configuration.step(event)) {
-        Ok(step) => Answer {
-            number: ACCEPTED,
-            value: step.value,
-            record: step.configuration.to_record(),
-        },
+        Ok(step) => Answer::accepted(&step.configuration, step.value),
         Err(refusal) => Answer::refused(&refusal, record),
     }
 }
@@ -141,5 +90,5 @@ pub fn step(record: &Record, event: &Event) -> Answer {
 /// there is no answer then. Elsewhere the missing test changes nothing.
 pub fn step_without_number_2(record: &Record, event: &Event) -> Option<Answer> {
     let answer = step(record, event);
-    (answer.number != 2).then_some(answer)
+    (answer.number != Number::NotAConfiguration.code()).then_some(answer)
 }

@@ -2,9 +2,9 @@
 
 use crate::configuration::Configuration;
 use crate::event::{Event, EVENT_BYTES};
-use crate::step::{Refusal, Step, ACCEPTED};
+use crate::step::{number, Outcome};
 use crate::tree::Tree;
-use std::fmt::{self, Write};
+use std::fmt;
 use std::ops::RangeInclusive;
 
 pub const VERSION: u8 = 1;
@@ -91,7 +91,7 @@ impl Trail {
     /// Calls `see` for each event with the configuration before it and what came of it; gives the last one.
     pub fn run(
         &self,
-        mut see: impl FnMut(&Configuration, &Event, &Result<Step, Refusal>),
+        mut see: impl FnMut(&Configuration, &Event, &Outcome),
     ) -> Option<Configuration> {
         let (tree, first_value) = self.first?;
         let mut configuration = Configuration::reset(tree, first_value);
@@ -103,6 +103,11 @@ impl Trail {
             }
         }
         Some(configuration)
+    }
+
+    /// The bytes of a trail with so many events.
+    pub fn size(tree: &Tree, events: usize) -> usize {
+        1 + 2 + 8 + (tree.count() - 1) + events * (2 + EVENT_BYTES)
     }
 
     pub fn to_bytes(tree: &Tree, first_value: u64, events: &[Event]) -> Vec<u8> {
@@ -152,23 +157,23 @@ pub fn write_record(bytes: &mut Vec<u8>, body: &[u8]) {
 }
 
 /// Index, kind, node, number, answer value.
-pub fn line(index: usize, event: &Event, outcome: &Result<Step, Refusal>) -> String {
-    let (number, value) = match outcome {
-        Ok(step) => (ACCEPTED, step.value),
-        Err(refusal) => (refusal.number(), 0),
-    };
+pub fn line(index: usize, event: &Event, outcome: &Outcome) -> String {
     let Event { kind, node, .. } = event;
+    let number = number(outcome).code();
+    let value = outcome.as_ref().map_or(0, |step| step.value);
     format!("{index} {kind} {node} {number} {value}")
 }
 
-/// `end` and the node names in order.
-pub fn end_line(configuration: &Configuration) -> String {
-    configuration
-        .names()
-        .fold("end".to_string(), |mut line, name| {
-            let _ = write!(line, " {name}");
-            line
-        })
+/// The last line: `end` and the node names in order, or `bad` and the offset.
+pub fn last_line(bad: Option<Bad>, last: Option<&Configuration>) -> String {
+    match (bad, last) {
+        (Some(bad), _) => format!("bad {}", bad.offset),
+        (None, Some(configuration)) => {
+            let names = configuration.names().map(|name| format!(" {name}"));
+            format!("end{}", names.collect::<String>())
+        }
+        (None, None) => unreachable!("a trail without a first record is bad"),
+    }
 }
 
 /// Everything that the program prints for an input.
@@ -176,10 +181,6 @@ pub fn output(input: &[u8]) -> String {
     let trail = Trail::read(input);
     let mut lines = Vec::new();
     let last = trail.run(|_, event, outcome| lines.push(line(lines.len() + 1, event, outcome)));
-    match (trail.bad, last) {
-        (Some(bad), _) => lines.push(format!("bad {}", bad.offset)),
-        (None, Some(configuration)) => lines.push(end_line(&configuration)),
-        (None, None) => unreachable!("a trail without a first record is bad"),
-    }
+    lines.push(last_line(trail.bad, last.as_ref()));
     lines.join("\n") + "\n"
 }

@@ -11,39 +11,15 @@
 
 mod parse;
 mod print;
+mod words;
 
 pub use parse::{to_bytes, TextError};
 pub use print::{event_line, from_bytes};
-
-use crate::codes::Kind;
 
 /// A trail in bytes begins with byte 1 or another byte that no text begins with.
 pub fn is_bytes(input: &[u8]) -> bool {
     match input.first() {
         Some(first) => !first.is_ascii_graphic() && !first.is_ascii_whitespace(),
         None => true,
-    }
-}
-
-/// The kind's name in the event table as one word: "send ProbeAck" is `send-probe-ack`.
-fn kind_word(kind: Kind) -> String {
-    let mut word = String::new();
-    for letter in kind.title().chars() {
-        if letter == ' ' || (letter.is_uppercase() && !word.ends_with('-')) {
-            word.push('-');
-        }
-        if letter != ' ' {
-            word.push(letter.to_ascii_lowercase());
-        }
-    }
-    word
-}
-
-/// The word before the child, for the kinds that name one.
-fn child_word(kind: Kind) -> &'static str {
-    if kind == Kind::SendProbe {
-        "to"
-    } else {
-        "from"
     }
 }

@@ -1,8 +1,9 @@
 //! From text to bytes.
 
-use super::{child_word, kind_word};
-use crate::codes::Kind;
-use crate::event::{Event, Other, SHARED, SOLE};
+use super::words::{child_word, choice_word, kind_word};
+use crate::codes::Choice;
+use crate::event::Event;
+use crate::kinds::{Kind, Other, Value};
 use crate::trail::{Trail, LIMIT};
 use crate::tree::{Tree, NODES};
 use std::fmt;
@@ -39,7 +40,7 @@ pub fn to_bytes(text: &str) -> Result<Vec<u8>, TextError> {
             continue;
         };
         events.push(parse_event(&words).map_err(error)?);
-        if size(&tree, events.len()) > LIMIT {
+        if Trail::size(&tree, events.len()) > LIMIT {
             let most = events.len() - 1;
             return Err(error(format!(
                 "too long: on this tree a trail holds {most} events"
@@ -53,11 +54,6 @@ pub fn to_bytes(text: &str) -> Result<Vec<u8>, TextError> {
             what: "the text ends without a line such as: tree 0 0 first 7".to_string(),
         }),
     }
-}
-
-/// The bytes of a trail: version, first record, and events of two bytes of length and 11 more.
-fn size(tree: &Tree, events: usize) -> usize {
-    1 + 2 + 8 + (tree.count() - 1) + events * (2 + 11)
 }
 
 fn parse_tree(words: &[&str]) -> Result<(Tree, u64), String> {
@@ -99,13 +95,19 @@ fn parse_event(words: &[&str]) -> Result<Event, String> {
     let kind = parse_kind(words[0])?;
     let usage = || format!("kind {} is written: {}", kind.code(), form(kind));
     let node = number(words.get(1).ok_or_else(usage)?, "node")?;
-    let (other, value) = match (kind.other(), &words[2..]) {
-        (Other::Zero, ["value", value]) if kind == Kind::Store => (0, number(value, "value")?),
-        (Other::Zero, []) if kind != Kind::Store => (0, 0),
-        (Other::Child, [word, child]) if *word == child_word(kind) => (number(child, "child")?, 0),
-        (Other::SharedOrSole, ["shared"]) => (SHARED as u8, 0),
-        (Other::SharedOrSole, ["sole"]) => (SOLE as u8, 0),
-        _ => return Err(usage()),
+    let row = kind.row();
+    let rest = words[2..].split_at_checked(other_words(row.other));
+    let (other, value) = rest.ok_or_else(usage)?;
+    let value = match (row.value, value) {
+        (Value::Stored, ["value", value]) => number(value, "value")?,
+        (Value::Zero, []) => 0,
+        (Value::Stored | Value::Zero, _) => return Err(usage()),
+    };
+    let other = match (row.other, other) {
+        (Other::Child(way), [word, child]) if *word == child_word(way) => number(child, "child")?,
+        (Other::Choice, [word]) => choice_of(word).ok_or_else(usage)?.code(),
+        (Other::Zero, []) => 0,
+        (Other::Child(_) | Other::Choice | Other::Zero, _) => return Err(usage()),
     };
     Ok(Event {
         kind: kind.code(),
@@ -113,6 +115,20 @@ fn parse_event(words: &[&str]) -> Result<Event, String> {
         other,
         value,
     })
+}
+
+/// How many words say what "other" is.
+fn other_words(other: Other) -> usize {
+    match other {
+        Other::Child(_) => 2,
+        Other::Choice => 1,
+        Other::Zero => 0,
+    }
+}
+
+fn choice_of(word: &str) -> Option<Choice> {
+    let mut choices = Choice::ALL.iter().copied();
+    choices.find(|&choice| choice_word(choice) == word)
 }
 
 fn parse_kind(word: &str) -> Result<Kind, String> {
@@ -135,11 +151,20 @@ fn number<T: FromStr>(word: &str, what: &str) -> Result<T, String> {
 
 /// How an event of a kind is written.
 fn form(kind: Kind) -> String {
-    let word = kind_word(kind);
-    match kind.other() {
-        Other::Child => format!("{word} NODE {} CHILD", child_word(kind)),
-        Other::SharedOrSole => format!("{word} NODE shared, or {word} NODE sole"),
-        Other::Zero if kind == Kind::Store => format!("{word} NODE value VALUE"),
-        Other::Zero => format!("{word} NODE"),
-    }
+    let (row, word) = (kind.row(), kind_word(kind));
+    let value = match row.value {
+        Value::Stored => " value VALUE",
+        Value::Zero => "",
+    };
+    let others = match row.other {
+        Other::Child(way) => vec![format!(" {} CHILD", child_word(way))],
+        Other::Choice => {
+            let word = |&choice: &Choice| format!(" {}", choice_word(choice));
+            Choice::ALL.iter().map(word).collect()
+        }
+        Other::Zero => vec![String::new()],
+    };
+    let form = |other: String| format!("{word} NODE{other}{value}");
+    let forms: Vec<String> = others.into_iter().map(form).collect();
+    forms.join(", or ")
 }

@@ -1,8 +1,9 @@
 //! From bytes to text.
 
-use super::{child_word, kind_word};
-use crate::codes::Kind;
-use crate::event::{Event, Other, SHARED, SOLE};
+use super::words::{child_word, choice_word, kind_word};
+use crate::codes::Choice;
+use crate::event::Event;
+use crate::kinds::{Kind, Other, Value};
 use crate::trail::{Bad, Trail};
 
 /// The text of a good trail in bytes.
@@ -37,13 +38,14 @@ pub fn event_line(event: &Event) -> String {
 
 fn named(event: &Event) -> Option<String> {
     let kind = Kind::from_code(event.kind)?;
-    let rest = match (kind.other(), usize::from(event.other), event.value) {
-        (Other::Child, child, 0) => format!(" {} {child}", child_word(kind)),
-        (Other::SharedOrSole, SHARED, 0) => " shared".to_string(),
-        (Other::SharedOrSole, SOLE, 0) => " sole".to_string(),
-        (Other::Zero, 0, value) if kind == Kind::Store => format!(" value {value}"),
-        (Other::Zero, 0, 0) => String::new(),
-        _ => return None,
+    let other = match kind.row().other {
+        Other::Child(way) => format!(" {} {}", child_word(way), event.other),
+        Other::Choice => format!(" {}", choice_word(Choice::from_code(event.other)?)),
+        Other::Zero => (event.other == 0).then(String::new)?,
     };
-    Some(format!("{} {}{rest}", kind_word(kind), event.node))
+    let value = match kind.row().value {
+        Value::Stored => format!(" value {}", event.value),
+        Value::Zero => (event.value == 0).then(String::new)?,
+    };
+    Some(format!("{} {}{other}{value}", kind_word(kind), event.node))
 }

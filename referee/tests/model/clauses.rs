@@ -3,9 +3,8 @@
 use crate::common::{after, NODE_2_ASKS_WHILE_NODE_1_IS_DIRTY};
 use referee::clauses::{breaches, Clause};
 use referee::configuration::Configuration;
-use referee::event::Event;
+use referee::judge::configuration_of;
 use referee::record::Record;
-use referee::step::{configuration_of, step, step_without_number_2};
 
 /// Tree 0 0 0: the root is T and in Clear for node 2's load with a probe to node 1 out, node 1 is TT and dirty with
 /// 9, node 2 is N and in Wait, node 3 is N and quiet.
@@ -190,26 +189,4 @@ fn phases_and_purposes() {
     }
     assert_eq!(inner(0, 0, 2), [Clause::RequesterElsewhere]);
     assert_eq!(inner(7, 3, 2), [Clause::RequesterElsewhere]);
-}
-
-#[test]
-fn the_first_number_is_given() {
-    let bad_event = Event {
-        kind: 0,
-        node: 0,
-        other: 0,
-        value: 0,
-    };
-    let mut record = record();
-    assert_eq!(step(&record, &bad_event).number, 3);
-    record.rights[1] = 3;
-    let answer = step(&record, &bad_event);
-    assert_eq!((answer.number, answer.value), (2, 0));
-    assert_eq!(answer.record, record, "unchanged, though bad");
-    assert_eq!(step_without_number_2(&record, &bad_event), None);
-    record.parents[1] = 1;
-    let answer = step(&record, &bad_event);
-    assert_eq!((answer.number, answer.value), (1, 0));
-    assert_eq!(answer.record, record);
-    assert_eq!(step_without_number_2(&record, &bad_event), Some(answer));
 }

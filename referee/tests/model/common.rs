@@ -2,7 +2,7 @@
 
 use referee::configuration::Configuration;
 use referee::event::Event;
-use referee::step::Refusal;
+use referee::step;
 use referee::text;
 use referee::trail::Trail;
 
@@ -15,7 +15,7 @@ pub fn play(trail: &str) -> Played {
     let bytes = text::to_bytes(trail).expect("the text can be parsed");
     let mut numbers = Vec::new();
     let configuration = Trail::read(&bytes).run(|_, _, outcome| {
-        numbers.push(outcome.as_ref().map_or_else(Refusal::number, |_| 0));
+        numbers.push(step::number(outcome).code());
     });
     Played {
         numbers,
@@ -39,9 +39,22 @@ pub fn number(configuration: &Configuration, [kind, node, other]: [u8; 3], value
         other,
         value,
     };
-    configuration
-        .step(&event)
-        .map_or_else(|refusal| refusal.number(), |_| 0)
+    step::number(&configuration.step(&event)).code()
+}
+
+/// A child of the root misses (`load-miss` or `store-miss`) and is granted what it asks for, `shared` or `sole`.
+pub fn granted(miss: &str, child: usize, choice: &str) -> String {
+    format!(
+        "
+    {miss} {child}
+    send-acquire {child}
+    take-acquire 0 from {child}
+    send-grant 0 {choice}
+    take-grant {child}
+    send-grant-ack {child}
+    take-grant-ack 0
+"
+    )
 }
 
 /// Parents 0, 0: node 1 is TT and dirty with 9, node 2 has load-missed and the root has taken it (Clear).

@@ -1,8 +1,10 @@
 //! "Both sides of each edge" and the whole case of document 01, line by line.
 
-use crate::common::{after, number, play, NODE_2_ASKS_WHILE_NODE_1_IS_DIRTY};
-use referee::codes::{Kind, Phase, Rights};
-use referee::configuration::{Configuration, Name, Up};
+use crate::common::{after, granted, number, play, NODE_2_ASKS_WHILE_NODE_1_IS_DIRTY};
+use referee::codes::{Phase, Rights};
+use referee::configuration::Configuration;
+use referee::link::Up;
+use referee::node::Name;
 use referee::record::Record;
 use referee::step::{reset, Answer};
 use referee::text;
@@ -73,91 +75,17 @@ fn reset_is_as_said() {
 }
 
 #[test]
-fn kinds() {
-    let start = after("tree 0 first 7");
-    assert_eq!(number(&start, [0, 1, 0], 0), 3);
-    assert_eq!(number(&start, [20, 1, 0], 0), 3);
-    assert_eq!(number(&start, [255, 1, 0], 0), 3);
-    assert_eq!(number(&start, [14, 0, 2], 0), 3);
-    assert_eq!(number(&start, [14, 0, 1], 0), 5);
-    assert_eq!(number(&start, [14, 0, 0], 0), 5);
-}
-
-#[test]
-fn nodes_others_and_values() {
-    let start = after("tree 0 0 first 7");
-    for &kind in Kind::ALL {
-        let outside = [kind.code(), 3, 0];
-        assert_eq!(
-            number(&start, outside, 0),
-            3,
-            "{kind:?} at a node not in the tree"
-        );
-        if kind != Kind::Store {
-            assert_eq!(
-                number(&start, [kind.code(), 1, 0], 1),
-                3,
-                "{kind:?} with a value"
-            );
-        }
-    }
-    assert_eq!(
-        number(&start, [3, 1, 1], 0),
-        3,
-        "other is 0 for a load miss"
-    );
-    assert_eq!(
-        number(&start, [7, 0, 0], 0),
-        3,
-        "the root is nobody's child"
-    );
-    assert_eq!(number(&start, [7, 0, 3], 0), 3, "no node 3");
-    assert_eq!(number(&start, [7, 1, 2], 0), 3, "a leaf has no child");
-    assert_eq!(number(&start, [7, 0, 2], 0), 5);
-}
-
-#[test]
-fn places() {
-    let start = after("tree 0 1 first 7");
-    let numbers = |kinds: &[u8], node| {
-        let number = |&kind: &u8| number(&start, [kind, node, 0], 0);
-        kinds.iter().map(number).collect::<Vec<_>>()
-    };
-    assert_eq!(numbers(&[1, 2, 3, 4], 0), [4; 4]);
-    assert_eq!(numbers(&[1, 2, 3, 4], 1), [4; 4]);
-    assert_eq!(numbers(&[1, 2, 3, 4], 2), [5, 5, 0, 0]);
-    let below_root = [5, 6, 9, 10, 12, 13, 16, 19];
-    assert_eq!(numbers(&below_root, 0), [4; 8]);
-    assert_eq!(numbers(&below_root, 1), [5; 8]);
-    assert_eq!(numbers(&[14, 15, 18], 2), [4; 3]);
-    assert_eq!(numbers(&[14, 15, 18], 1), [5; 3]);
-    assert_eq!(numbers(&[14, 15, 18], 0), [5; 3]);
-}
-
-#[test]
 fn stores() {
-    let shared = after(
-        "tree 0 first 7
-         load-miss 1
-         send-acquire 1
-         take-acquire 0 from 1
-         send-grant 0 shared
-         take-grant 1
-         send-grant-ack 1
-         take-grant-ack 0",
-    );
+    let after_load = |choice| {
+        after(&format!(
+            "tree 0 first 7{}",
+            granted("load-miss", 1, choice)
+        ))
+    };
+    let shared = after_load("shared");
     assert_eq!(shared.nodes[1].name(), Name::B);
     assert_eq!(number(&shared, [2, 1, 0], 9), 5);
-    let sole = after(
-        "tree 0 first 7
-         load-miss 1
-         send-acquire 1
-         take-acquire 0 from 1
-         send-grant 0 sole
-         take-grant 1
-         send-grant-ack 1
-         take-grant-ack 0",
-    );
+    let sole = after_load("sole");
     assert_eq!(sole.nodes[1].name(), Name::TT);
     assert_eq!(number(&sole, [2, 1, 0], 9), 0);
 }

@@ -5,6 +5,8 @@ mod common;
 mod edges;
 mod examples;
 mod formats;
+mod module_order;
+mod numbers;
 mod reader_errors;
 mod text_form;
 mod trail_bytes;

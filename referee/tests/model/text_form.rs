@@ -1,7 +1,7 @@
 //! The text form: what it means, what it refuses, and that bytes come back as they were.
 
-use referee::codes::Kind;
 use referee::event::Event;
+use referee::kinds::Kind;
 use referee::text::{event_line, from_bytes, is_bytes, to_bytes};
 use referee::trail::Trail;
 use referee::tree::Tree;

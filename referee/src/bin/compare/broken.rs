@@ -3,7 +3,7 @@
 use crate::random::Random;
 use crate::{scattered, trees};
 use referee::clauses::{breaches, Clause};
-use referee::codes::{Entry, Phase, Purpose};
+use referee::codes::{Acquire, Cap, Confirmation, DownCode, Entry, Phase, Purpose, Rights, UpCode};
 use referee::configuration::Configuration;
 use referee::record::{LinkRecord, Record};
 use referee::tree::{Tree, NODES};
@@ -31,25 +31,27 @@ fn breaks(random: &mut Random, clause: Clause, tree: &Tree, record: &mut Record,
     let node = &mut record.nodes[at];
     let link = &mut record.links[at];
     match clause {
-        Clause::CodeOfRights => record.rights[at] = above(random, 2),
+        Clause::CodeOfRights => record.rights[at] = above(random, Rights::LAST),
         Clause::CodeOfEntry => {
             if let Some(child) = child {
-                record.entries[at][child] = above(random, 2);
+                record.entries[at][child] = above(random, Entry::LAST);
             }
         }
-        Clause::CodeOfPhase => node.phase = above(random, 8),
-        Clause::CodeOfPurpose => (node.purpose, node.requester) = (above(random, 3), 0),
+        Clause::CodeOfPhase => node.phase = above(random, Phase::LAST),
+        Clause::CodeOfPurpose => {
+            (node.purpose, node.requester) = (above(random, Purpose::LAST), 0);
+        }
         Clause::CodeOfCap => {
-            let outside = above(random, 2);
+            let outside = above(random, Cap::LAST);
             (node.probe, node.cap) = (true, random.pick(&[0, outside]));
         }
-        Clause::CodeInA => link.a = above(random, 3),
-        Clause::CodeInB => link.b = above(random, 2),
-        Clause::CodeInC => (link.c, link.kept) = (above(random, 4), 0),
-        Clause::CodeOfKept => link.kept = above(random, 1),
-        Clause::CodeInD => link.d = above(random, 4),
-        Clause::CodeInE => link.e = above(random, 1),
-        Clause::EntryNotAChild => record.entries[at][stranger] = random.between(1, 2) as u8,
+        Clause::CodeInA => link.a = above(random, Acquire::LAST),
+        Clause::CodeInB => link.b = above(random, Cap::LAST),
+        Clause::CodeInC => (link.c, link.kept) = (above(random, UpCode::LAST), 0),
+        Clause::CodeOfKept => link.kept = above(random, Rights::B.code()),
+        Clause::CodeInD => link.d = above(random, DownCode::LAST),
+        Clause::CodeInE => link.e = above(random, Confirmation::LAST),
+        Clause::EntryNotAChild => record.entries[at][stranger] = a_code(random, Entry::LAST),
         Clause::ToProbeNotAChild => record.to_probe[at][stranger] = true,
         Clause::PendingNotAChild => record.pending[at][stranger] = true,
         Clause::RequesterNotAChild => node.requester = outsider(random, stranger),
@@ -81,21 +83,31 @@ fn breaks(random: &mut Random, clause: Clause, tree: &Tree, record: &mut Record,
         Clause::ValueAtN => node.value = random.nonzero(),
         Clause::IdleWithPurpose => {
             node.phase = Phase::Idle.code();
-            node.purpose = random.between(1, 2) as u8;
+            node.purpose = purpose_with_requester(random).code();
             node.requester = child.map_or(0, |child| child as u8);
         }
         Clause::BusyWithoutPurpose => (node.purpose, node.requester) = (0, 0),
         Clause::EvictOutside => (node.purpose, node.requester) = (Purpose::Evict.code(), 0),
         Clause::LoadStoreInside => {
-            node.purpose = random.between(1, 2) as u8;
+            node.purpose = purpose_with_requester(random).code();
             node.requester = child.map_or(0, |child| child as u8);
         }
         Clause::GiveAtLeaf => {
-            node.phase = random.pick(&[Phase::Give, Phase::Await]).code();
+            let phase = random.pick_where(Phase::ALL, Phase::serves_child);
+            node.phase = phase.code();
         }
         Clause::RequesterMissing => node.requester = 0,
         Clause::RequesterElsewhere => node.requester = child.map_or(0, |child| child as u8),
     }
+}
+
+/// A code of a list that ends with this one, and 0 of which is empty.
+fn a_code(random: &mut Random, last: u8) -> u8 {
+    random.between(1, usize::from(last)) as u8
+}
+
+fn purpose_with_requester(random: &mut Random) -> Purpose {
+    random.pick_where(Purpose::ALL, Purpose::has_requester)
 }
 
 /// A code above a limit: the next one often.
@@ -126,11 +138,11 @@ fn outsider(random: &mut Random, stranger: usize) -> u8 {
 
 fn fill_slot(random: &mut Random, link: &mut LinkRecord) {
     match random.below(5) {
-        0 => link.a = random.between(1, 3) as u8,
-        1 => link.b = random.between(1, 2) as u8,
-        2 => link.c = random.between(1, 4) as u8,
-        3 => link.d = random.between(1, 4) as u8,
-        _ => link.e = 1,
+        0 => link.a = a_code(random, Acquire::LAST),
+        1 => link.b = a_code(random, Cap::LAST),
+        2 => link.c = a_code(random, UpCode::LAST),
+        3 => link.d = a_code(random, DownCode::LAST),
+        _ => link.e = Confirmation::GrantAck.code(),
     }
 }
 

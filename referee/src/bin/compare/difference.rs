@@ -3,9 +3,10 @@
 use crate::program::{Program, Starter};
 use crate::shrink::{answer_pieces, trail_pieces, Shrink};
 use referee::answer::{answers, Request, ANSWER_BYTES};
-use referee::record::RECORD_BYTES;
+use referee::record::{LINK_BYTES, NODE_BYTES, RECORD_BYTES};
 use referee::text::{event_line, from_bytes};
 use referee::trail;
+use referee::tree::NODES;
 use std::fs;
 use std::io;
 use std::path::{Path, PathBuf};
@@ -157,7 +158,6 @@ fn answer_field(offset: usize) -> String {
 
 /// The name of the byte at an offset of a record, by the tables of docs/FORMAT.md.
 fn record_field(offset: usize) -> String {
-    use referee::tree::NODES;
     let rows = NODES * NODES;
     let mut rest = offset;
     for (name, size, width) in [
@@ -167,8 +167,8 @@ fn record_field(offset: usize) -> String {
         ("entries", rows, NODES),
         ("to-probe", rows, NODES),
         ("pending", rows, NODES),
-        ("node", NODES * 15, 15),
-        ("link", NODES * 22, 22),
+        ("node", NODES * NODE_BYTES, NODE_BYTES),
+        ("link", NODES * LINK_BYTES, LINK_BYTES),
     ] {
         if rest < size {
             return match (size == rows, name) {

@@ -2,6 +2,7 @@
 
 use crate::random::Random;
 use referee::answer::Request;
+use referee::record::NODE_BYTES;
 use referee::tree::NODES;
 
 /// One of the ways for `answer` to end, made from a request.
@@ -24,7 +25,7 @@ pub fn ending(random: &mut Random, request: &Request) -> Vec<u8> {
 fn spoil_flag(random: &mut Random, bytes: &mut [u8]) {
     let sets = 1 + 1 + 2 * NODES + NODES * NODES;
     let nodes = sets + 2 * NODES * NODES;
-    let node = nodes + 15 * random.below(NODES);
+    let node = nodes + NODE_BYTES * random.below(NODES);
     let (dirty, probe) = (node, node + 12);
     let cell = sets + random.below(2 * NODES * NODES);
     match bytes.get_mut(random.pick(&[cell, dirty, probe])) {

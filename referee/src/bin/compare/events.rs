@@ -1,10 +1,12 @@
 //! Random events: those that a configuration accepts, those that it nearly accepts, and any others.
 
 use crate::random::Random;
-use referee::codes::Kind;
+use referee::codes::Choice;
 use referee::configuration::Configuration;
-use referee::event::{Event, Other, Place};
-use referee::rules::{rule, Scene};
+use referee::event::Event;
+use referee::judge::{judged, named};
+use referee::kinds::{Kind, Other, Row, Value};
+use referee::rules::{Act, Scene};
 use referee::tree::Tree;
 
 /// Every event that numbers 3 and 4 let pass on a tree; stores with value 0.
@@ -12,43 +14,42 @@ pub fn candidates(tree: &Tree) -> Vec<Event> {
     let mut events = Vec::new();
     for &kind in Kind::ALL {
         for node in tree.nodes() {
-            let others: Vec<usize> = match kind.other() {
-                Other::Child => tree.children(node).collect(),
-                Other::SharedOrSole => vec![0, 1],
+            let others: Vec<u8> = match kind.row().other {
+                Other::Child(_) => tree.children(node).map(|child| child as u8).collect(),
+                Other::Choice => Choice::ALL.iter().map(|choice| choice.code()).collect(),
                 Other::Zero => vec![0],
             };
             events.extend(others.into_iter().map(|other| Event {
                 kind: kind.code(),
                 node: node as u8,
-                other: other as u8,
+                other,
                 value: 0,
             }));
         }
     }
-    events.retain(|event| event.act(tree).is_ok());
+    events.retain(|event| placed(tree, event).is_some());
     events
+}
+
+/// The row and the act of an event that numbers 3 and 4 let pass.
+fn placed(tree: &Tree, event: &Event) -> Option<(&'static Row, Act)> {
+    let (row, act) = named(tree, event).ok()?;
+    row.place.allows(tree, act.node).then_some((row, act))
 }
 
 /// The positions of the needs that don't hold, for an event that numbers 3 and 4 let pass.
 pub fn failing(configuration: &Configuration, event: &Event) -> Option<Vec<usize>> {
-    let act = event.act(&configuration.tree).ok()?;
-    let scene = Scene::new(configuration, act);
-    let needs = rule(act.kind).needs;
-    Some(
-        (0..needs.len())
-            .filter(|&need| !(needs[need].holds)(&scene))
-            .collect(),
-    )
+    let (row, act) = placed(&configuration.tree, event)?;
+    let scene = Scene { configuration, act };
+    let needs = row.rule.listed(scene.purpose()).enumerate();
+    let failing = needs.filter(|(_, (need, asked))| *asked && !(need.holds)(&scene));
+    Some(failing.map(|(position, _)| position).collect())
 }
 
 /// The candidates that a configuration accepts.
 pub fn accepted(configuration: &Configuration, candidates: &[Event]) -> Vec<Event> {
     let mut events = candidates.to_vec();
-    events.retain(|event| {
-        let act = event.act(&configuration.tree).expect("a candidate");
-        let scene = Scene::new(configuration, act);
-        rule(act.kind).needs.iter().all(|need| (need.holds)(&scene))
-    });
+    events.retain(|event| judged(configuration, event).is_ok());
     events
 }
 
@@ -80,8 +81,11 @@ fn nearly_accepted(
     Some(random.pick(&events))
 }
 
+/// One more than the last kind's code.
+pub const KIND_CODES: usize = Kind::LAST as usize + 1;
+
 /// How often each kind is preferred, by its code.
-pub type Weights = [usize; 20];
+pub type Weights = [usize; KIND_CODES];
 
 /// One event, its kind first: by weight, whatever the number of its events.
 pub fn choose(random: &mut Random, events: &[Event], weights: &Weights) -> Option<Event> {
@@ -104,16 +108,26 @@ pub fn choose(random: &mut Random, events: &[Event], weights: &Weights) -> Optio
         .filter(|event| event.kind == kind)
         .collect();
     let mut event = random.pick(&of_kind);
-    if kind == Kind::Store.code() {
-        event.value = random.value();
-    }
+    event.value = value(random, Kind::from_code(kind)?);
     Some(event)
+}
+
+/// A value as it is named for a kind.
+fn value(random: &mut Random, kind: Kind) -> u64 {
+    match kind.row().value {
+        Value::Stored => random.value(),
+        Value::Zero => 0,
+    }
 }
 
 /// An event that is accepted, or that one need alone refuses, or any.
 pub fn aimed(random: &mut Random, configuration: &Configuration, candidates: &[Event]) -> Event {
     let chosen = match random.below(10) {
-        0..3 => choose(random, &accepted(configuration, candidates), &[1; 20]),
+        0..3 => choose(
+            random,
+            &accepted(configuration, candidates),
+            &[1; KIND_CODES],
+        ),
         3..7 => nearly_accepted(random, configuration, candidates),
         _ => None,
     };
@@ -124,26 +138,23 @@ pub fn aimed(random: &mut Random, configuration: &Configuration, candidates: &[E
 pub fn any(random: &mut Random, tree: &Tree) -> Event {
     let kind = random.pick(Kind::ALL);
     let node = random.below(tree.count());
-    let other = match kind.other() {
-        Other::Child => {
+    let other = match kind.row().other {
+        Other::Child(_) => {
             let children: Vec<usize> = tree.children(node).collect();
-            match children.is_empty() {
+            let child = match children.is_empty() {
                 true => random.below(tree.count()),
                 false => random.pick(&children),
-            }
+            };
+            child as u8
         }
-        Other::SharedOrSole => random.below(2),
+        Other::Choice => random.pick(Choice::ALL).code(),
         Other::Zero => 0,
     };
     let mut event = Event {
         kind: kind.code(),
         node: node as u8,
-        other: other as u8,
-        value: if kind == Kind::Store {
-            random.value()
-        } else {
-            0
-        },
+        other,
+        value: value(random, kind),
     };
     if random.percent(33) {
         damage(random, tree, &mut event);
@@ -164,7 +175,7 @@ fn damage(random: &mut Random, tree: &Tree, event: &mut Event) {
             let kinds: Vec<Kind> = Kind::ALL
                 .iter()
                 .copied()
-                .filter(|kind| kind.place() != Place::Anywhere)
+                .filter(|kind| kind.row().place.is_judged())
                 .collect();
             event.kind = random.pick(&kinds).code();
             event.node = random.below(tree.count()) as u8;

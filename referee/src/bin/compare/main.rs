@@ -9,6 +9,7 @@ mod random;
 mod requests;
 mod scattered;
 mod shrink;
+mod table;
 mod tally;
 mod trails;
 mod trees;

@@ -40,6 +40,12 @@ impl Random {
         list[self.below(list.len())]
     }
 
+    /// One of the cases of a list that are as asked.
+    pub fn pick_where<T: Copy>(&mut self, list: &[T], wanted: fn(T) -> bool) -> T {
+        let cases: Vec<T> = list.iter().copied().filter(|&case| wanted(case)).collect();
+        self.pick(&cases)
+    }
+
     /// A line's value: small ones and the extremes often.
     pub fn value(&mut self) -> u64 {
         match self.below(4) {

@@ -9,8 +9,10 @@ use referee::answer::Request;
 use referee::clauses::{breaches, Clause};
 use referee::configuration::Configuration;
 use referee::event::Event;
+use referee::judge::configuration_of;
 use referee::record::Record;
-use referee::step::configuration_of;
+use referee::refusal::Number;
+use referee::step::number;
 use referee::tree::NODES;
 
 /// Requests in the making.
@@ -57,7 +59,7 @@ impl Row<'_> {
             let broken = breaches(&next.tree, &next.to_record());
             assert!(broken.is_empty(), "the model's own step breaks {broken:?}");
         }
-        let decided_without_2 = !matches!(&outcome, Err(refusal) if refusal.number() == 2);
+        let decided_without_2 = number(&outcome) != Number::NotAConfiguration;
         if decided_without_2 && self.random.percent(30) {
             self.tally.without_number_2();
             self.request(&record, event, false);

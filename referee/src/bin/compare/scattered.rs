@@ -2,8 +2,10 @@
 
 use crate::random::Random;
 use referee::clauses::breaches;
-use referee::codes::{Acquire, Cap, Entry, Phase, Purpose, Rights};
-use referee::configuration::{Configuration, Down, Link, Node, Set, Up};
+use referee::codes::{Acquire, Cap, Confirmation, DownCode, Entry, Phase, Purpose, Rights};
+use referee::configuration::Configuration;
+use referee::link::{Down, Link, Up};
+use referee::node::{Node, Set};
 use referee::record::Record;
 use referee::tree::{Tree, NODES};
 
@@ -33,19 +35,20 @@ fn node(random: &mut Random, tree: &Tree, at: usize, quiet: usize) -> Node {
         };
     }
     let (phase, purpose) = main_transaction(random, leaf, quiet);
-    let load_or_store = matches!(purpose, Some(Purpose::Load | Purpose::Store));
+    let (dirty, value) = match rights {
+        Rights::N => (false, 0),
+        Rights::B => (false, random.value()),
+        Rights::Tip => (random.percent(50), random.value()),
+    };
+    let asked = !leaf && purpose.is_some_and(Purpose::has_requester);
     Node {
         rights,
-        dirty: rights == Rights::Tip && random.percent(50),
-        value: if rights == Rights::N {
-            0
-        } else {
-            random.value()
-        },
+        dirty,
+        value,
         entries,
         phase,
         purpose,
-        requester: (load_or_store && !leaf).then(|| random.pick(&children)),
+        requester: asked.then(|| random.pick(&children)),
         probe: (!random.percent(quiet)).then(|| random.pick(Cap::ALL)),
         release: (!leaf && !random.percent(quiet)).then(|| random.pick(&children)),
         to_probe: set(random, &children, quiet),
@@ -60,13 +63,15 @@ fn main_transaction(random: &mut Random, leaf: bool, quiet: usize) -> (Phase, Op
         random.pick(Phase::ALL)
     };
     let purpose = random.pick(Purpose::ALL);
-    match (phase, purpose) {
-        (Phase::Idle, _) => (Phase::Idle, None),
-        (Phase::LetGo | Phase::Leaving, _) => (phase, Some(Purpose::Evict)),
-        (Phase::Clear, _) => (phase, Some(purpose)),
-        (Phase::Give | Phase::Await, _) if leaf => (Phase::Wait, Some(Purpose::Load)),
-        (_, Purpose::Evict) => (phase, Some(Purpose::Store)),
-        (_, _) => (phase, Some(purpose)),
+    match phase {
+        Phase::Idle => (phase, None),
+        Phase::Clear => (phase, Some(purpose)),
+        Phase::LetGo | Phase::Leaving => (phase, Some(Purpose::Evict)),
+        Phase::Give | Phase::Await if leaf => (Phase::Wait, Some(Purpose::Load)),
+        Phase::Ask | Phase::Wait | Phase::Confirm | Phase::Give | Phase::Await => match purpose {
+            Purpose::Load | Purpose::Store => (phase, Some(purpose)),
+            Purpose::Evict => (phase, Some(Purpose::Store)),
+        },
     }
 }
 
@@ -88,7 +93,7 @@ fn link(random: &mut Random, quiet: usize) -> Link {
         b: b.then(|| random.pick(Cap::ALL)),
         c: c.then(|| up(random)),
         d: d.then(|| down(random)),
-        e,
+        e: e.then_some(Confirmation::GrantAck),
     }
 }
 
@@ -97,18 +102,19 @@ fn up(random: &mut Random) -> Up {
     if random.percent(50) {
         Up::Release { data }
     } else {
-        let kept = random.pick(&[Rights::N, Rights::B]);
+        let kept = random.pick_where(Rights::ALL, Rights::may_be_kept);
         Up::ProbeAck { kept, data }
     }
 }
 
 fn down(random: &mut Random) -> Down {
-    match random.below(4) {
-        0 => Down::GrantT,
-        1 => Down::GrantDataT(random.value()),
-        2 => Down::GrantDataB(random.value()),
-        _ => Down::ReleaseAck,
-    }
+    let code = random.pick(DownCode::ALL);
+    let value = if code.carries_data() {
+        random.value()
+    } else {
+        0
+    };
+    Down::of(code, value)
 }
 
 /// A configuration that differs from this one in a few fields.

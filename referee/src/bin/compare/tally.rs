@@ -1,22 +1,17 @@
 //! What was met, counted; and what was never met.
 
-use crate::events::failing;
+use crate::events::{failing, KIND_CODES};
+use crate::table::Table;
 use crate::trails::Damage;
 use referee::clauses::Clause;
-use referee::codes::Kind;
 use referee::configuration::Configuration;
-use referee::event::{Event, Fault, Place};
-use referee::rules::rule;
-use referee::step::{Refusal, Step};
+use referee::event::Event;
+use referee::kinds::Kind;
+use referee::refusal::{Fault, Number, Refusal};
+use referee::step::{number, Outcome};
 
-const NUMBERS: usize = 6;
-const KINDS: usize = 20;
-const FAULTS: [(Fault, &str); 4] = [
-    (Fault::Kind, "kind not 1..19"),
-    (Fault::Node, "node not in the tree"),
-    (Fault::Other, "other not as named"),
-    (Fault::Value, "value not 0 where it must be"),
-];
+/// One more than the last number.
+const NUMBERS: usize = Number::LAST as usize + 1;
 
 #[derive(Default)]
 pub struct Tally {
@@ -25,11 +20,11 @@ pub struct Tally {
     pub trails: u64,
     numbers: [u64; NUMBERS],
     /// By kind, then by number.
-    kinds: [[u64; NUMBERS]; KINDS],
+    kinds: [[u64; NUMBERS]; KIND_CODES],
     /// By kind, then by need: how often it alone didn't hold.
-    needs: [Vec<u64>; KINDS],
+    needs: [Vec<u64>; KIND_CODES],
     clauses: Vec<u64>,
-    faults: [u64; FAULTS.len()],
+    faults: [u64; Fault::ALL.len()],
     damages: Vec<u64>,
     resets: [u64; 2],
     without_number_2: u64,
@@ -43,7 +38,7 @@ impl Tally {
             ..Tally::default()
         };
         for &kind in Kind::ALL {
-            tally.needs[usize::from(kind.code())] = vec![0; rule(kind).needs.len()];
+            tally.needs[usize::from(kind.code())] = vec![0; needs(kind).count()];
         }
         tally
     }
@@ -53,19 +48,20 @@ impl Tally {
         &mut self,
         configuration: Option<&Configuration>,
         event: &Event,
-        outcome: &Result<Step, Refusal>,
+        outcome: &Outcome,
     ) {
         self.events += 1;
-        let number = outcome.as_ref().map_or_else(Refusal::number, |_| 0);
-        self.numbers[usize::from(number)] += 1;
+        let number = number(outcome) as usize;
+        self.numbers[number] += 1;
         if let Some(kind) = Kind::from_code(event.kind) {
-            self.kinds[usize::from(kind.code())][usize::from(number)] += 1;
+            self.kinds[usize::from(kind.code())][number] += 1;
         }
         match outcome {
-            Err(Refusal::NotAConfiguration(clauses))
-                if clauses.iter().all(|&clause| clause == clauses[0]) =>
-            {
-                self.clauses[clauses[0] as usize] += 1;
+            Ok(_) | Err(Refusal::BadTree | Refusal::WrongPlace(_)) => {}
+            Err(Refusal::NotAConfiguration(clauses)) => {
+                if clauses.iter().all(|&clause| clause == clauses[0]) {
+                    self.clauses[clauses[0] as usize] += 1;
+                }
             }
             Err(Refusal::BadEvent(fault)) => self.faults[*fault as usize] += 1,
             Err(Refusal::Need(_)) => {
@@ -74,7 +70,6 @@ impl Tally {
                     self.needs[usize::from(event.kind)][*need] += 1;
                 }
             }
-            _ => {}
         }
     }
 
@@ -101,7 +96,7 @@ impl Tally {
         add_each(&mut self.faults, &other.faults);
         add_each(&mut self.damages, &other.damages);
         add_each(&mut self.resets, &other.resets);
-        for kind in 0..KINDS {
+        for kind in 0..KIND_CODES {
             add_each(&mut self.kinds[kind], &other.kinds[kind]);
             add_each(&mut self.needs[kind], &other.needs[kind]);
         }
@@ -111,8 +106,9 @@ impl Tally {
     pub fn report(&self) -> (String, Vec<String>) {
         let mut table = Table::default();
         table.title("number", "events");
-        for (number, &count) in self.numbers.iter().enumerate() {
-            table.row(&format!("number {number}"), count);
+        for &number in Number::ALL {
+            let words = format!("number {}", number.code());
+            table.row(&words, self.numbers[number as usize]);
         }
         self.report_kinds(&mut table);
         table.title("number 2: this clause alone is broken", "events");
@@ -120,8 +116,8 @@ impl Tally {
             table.row(clause.words(), count);
         }
         table.title("number 3", "events");
-        for ((_, words), &count) in FAULTS.iter().zip(&self.faults) {
-            table.row(words, count);
+        for (fault, &count) in Fault::ALL.iter().zip(&self.faults) {
+            table.row(fault.words(), count);
         }
         table.title("request", "times");
         table.row("reset on a good tree", self.resets[0]);
@@ -137,62 +133,49 @@ impl Tally {
     fn report_kinds(&self, table: &mut Table) {
         table.text += "\nkind                  accepted  refused 3  refused 4  refused 5  (each of its needs alone)\n";
         for &kind in Kind::ALL {
-            let by_number = &self.kinds[usize::from(kind.code())];
-            let needs = &self.needs[usize::from(kind.code())];
-            let name = format!("{} {}", kind.code(), kind.title());
-            let wrong_place = match kind.place() {
-                Place::Anywhere => "-".to_string(),
-                _ => by_number[4].to_string(),
+            let counts = &self.kinds[usize::from(kind.code())];
+            let by_number = |number: Number| counts[number as usize];
+            let alone = &self.needs[usize::from(kind.code())];
+            let name = format!("{} {}", kind.code(), kind.row().name);
+            let judged = kind.row().place.is_judged();
+            let wrong_place = match judged {
+                true => by_number(Number::WrongPlace).to_string(),
+                false => "-".to_string(),
             };
-            let alone: Vec<String> = needs.iter().map(u64::to_string).collect();
+            let each_alone: Vec<String> = alone.iter().map(u64::to_string).collect();
             table.text += &format!(
                 "{name:<20}{:>10} {:>10} {wrong_place:>10} {:>10}  ({})\n",
-                by_number[0],
-                by_number[3],
-                by_number[5],
-                alone.join(" ")
+                by_number(Number::Accepted),
+                by_number(Number::BadEvent),
+                by_number(Number::Needs),
+                each_alone.join(" ")
             );
-            table.must_be_met(&format!("kind {name} accepted"), by_number[0]);
-            table.must_be_met(&format!("kind {name} refused with 3"), by_number[3]);
-            if kind.place() != Place::Anywhere {
-                table.must_be_met(&format!("kind {name} refused with 4"), by_number[4]);
+            for &number in Number::ALL {
+                let refused = format!("refused with {}", number.code());
+                let words = match number {
+                    Number::Accepted => "accepted".to_string(),
+                    Number::BadEvent | Number::Needs => refused,
+                    Number::WrongPlace if judged => refused,
+                    // The first two don't look at the kind.
+                    Number::WrongPlace | Number::BadTree | Number::NotAConfiguration => continue,
+                };
+                table.must_be_met(&format!("kind {name} {words}"), by_number(number));
             }
-            table.must_be_met(&format!("kind {name} refused with 5"), by_number[5]);
-            for (need, &count) in rule(kind).needs.iter().zip(needs) {
-                table.must_be_met(
-                    &format!("kind {name} refused by \"{}\" alone", need.words),
-                    count,
-                );
+            for (need, &count) in needs(kind).zip(alone) {
+                table.must_be_met(&format!("kind {name} refused by \"{need}\" alone"), count);
             }
         }
     }
+}
+
+/// The needs of a kind's row, in its words and order.
+fn needs(kind: Kind) -> impl Iterator<Item = &'static str> {
+    let needs = kind.row().rule.listed(None);
+    needs.map(|(need, _)| need.words)
 }
 
 fn add_each(to: &mut [u64], from: &[u64]) {
     for (to, from) in to.iter_mut().zip(from) {
         *to += from;
-    }
-}
-
-#[derive(Default)]
-struct Table {
-    text: String,
-    missing: Vec<String>,
-}
-
-impl Table {
-    fn title(&mut self, words: &str, unit: &str) {
-        self.text += &format!("\n{words:<62}{unit:>12}\n");
-    }
-
-    fn row(&mut self, words: &str, count: u64) {
-        self.text += &format!("{words:<62}{count:>12}\n");
-        self.must_be_met(words, count);
-    }
-
-    fn must_be_met(&mut self, words: &str, count: u64) {
-        if count == 0 {
-            self.missing.push(words.to_string());
-        }
     }
 }

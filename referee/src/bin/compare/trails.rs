@@ -6,74 +6,94 @@ use crate::walk::Walk;
 use referee::event::Event;
 use referee::trail::{write_record, Trail, LIMIT, VERSION};
 use referee::tree::Tree;
+use referee::worded;
 
-macro_rules! damages {
-    ($($damage:ident: $words:literal),+ $(,)?) => {
-        #[derive(Clone, Copy, Debug, PartialEq, Eq)]
-        pub enum Damage { $($damage),+ }
-
-        impl Damage {
-            pub const ALL: &'static [Damage] = &[$(Damage::$damage),+];
-
-            pub fn words(self) -> &'static str {
-                match self { $(Damage::$damage => $words),+ }
-            }
-        }
-    };
+worded! {
+    /// What is wrong with a trail.
+    Damage {
+        None: "good",
+        Empty: "missing version",
+        WrongVersion: "wrong version",
+        FirstMissing: "missing first record",
+        FirstLengthCut: "first record: cut short in its length",
+        FirstTooShort: "first record: length below 9",
+        FirstTooLong: "first record: length above 23",
+        FirstCut: "first record: cut short",
+        BadTree: "first record: bad tree",
+        LengthCut: "event: cut short in its length",
+        TooShort: "event: length below 11",
+        TooLong: "event: length above 11",
+        Cut: "event: cut short",
+        EndsAtLimit: "good, and ends at 65,536",
+        BeginsAtLimit: "event: begins at 65,536",
+        LengthCrossesLimit: "event: its length crosses 65,536",
+        CrossesLimit: "event: crosses 65,536",
+        CutAtLimit: "event: crosses 65,536, where the input ends",
+        GoesOn: "good to the limit, and goes on far beyond",
+    }
 }
 
-damages! {
-    None: "good",
-    Empty: "missing version",
-    WrongVersion: "wrong version",
-    FirstMissing: "missing first record",
-    FirstLengthCut: "first record: cut short in its length",
-    FirstTooShort: "first record: length below 9",
-    FirstTooLong: "first record: length above 23",
-    FirstCut: "first record: cut short",
-    BadTree: "first record: bad tree",
-    LengthCut: "event: cut short in its length",
-    TooShort: "event: length below 11",
-    TooLong: "event: length above 11",
-    Cut: "event: cut short",
-    EndsAtLimit: "good, and ends at 65,536",
-    BeginsAtLimit: "event: begins at 65,536",
-    LengthCrossesLimit: "event: its length crosses 65,536",
-    CrossesLimit: "event: crosses 65,536",
-    CutAtLimit: "event: crosses 65,536, where the input ends",
-    GoesOn: "good to the limit, and goes on far beyond",
+/// How a trail ends that fills the first 65,536 bytes.
+#[derive(Clone, Copy)]
+enum Ending {
+    AtLimit,
+    BeginsAtLimit,
+    LengthCrossesLimit,
+    CrossesLimit,
+    CutAtLimit,
+    GoesOn,
 }
 
 impl Damage {
-    /// These need a trail that fills the first 65,536 bytes.
     pub fn is_long(self) -> bool {
-        matches!(
-            self,
-            Damage::EndsAtLimit
-                | Damage::BeginsAtLimit
-                | Damage::LengthCrossesLimit
-                | Damage::CrossesLimit
-                | Damage::CutAtLimit
-                | Damage::GoesOn
-        )
+        self.ending().is_some()
+    }
+
+    fn ending(self) -> Option<Ending> {
+        match self {
+            Damage::EndsAtLimit => Some(Ending::AtLimit),
+            Damage::BeginsAtLimit => Some(Ending::BeginsAtLimit),
+            Damage::LengthCrossesLimit => Some(Ending::LengthCrossesLimit),
+            Damage::CrossesLimit => Some(Ending::CrossesLimit),
+            Damage::CutAtLimit => Some(Ending::CutAtLimit),
+            Damage::GoesOn => Some(Ending::GoesOn),
+            Damage::None
+            | Damage::Empty
+            | Damage::WrongVersion
+            | Damage::FirstMissing
+            | Damage::FirstLengthCut
+            | Damage::FirstTooShort
+            | Damage::FirstTooLong
+            | Damage::FirstCut
+            | Damage::BadTree
+            | Damage::LengthCut
+            | Damage::TooShort
+            | Damage::TooLong
+            | Damage::Cut => None,
+        }
     }
 }
 
 /// A trail with this damage.
 pub fn trail(random: &mut Random, damage: Damage) -> Vec<u8> {
-    if damage.is_long() {
-        return long(random, damage);
+    match damage.ending() {
+        Some(ending) => long(random, ending),
+        None => short(random, damage),
     }
+}
+
+fn short(random: &mut Random, damage: Damage) -> Vec<u8> {
     let tree = trees::good(random);
     let first_value = random.value();
     let most = random.pick(&[0, 1, 5, 40, 200]);
     let number = random.between(0, most);
     let events = events(random, tree, first_value, number);
     let mut bytes = Trail::to_bytes(&tree, first_value, &events);
-    let first_end = 1 + 2 + 8 + (tree.count() - 1);
+    let first_end = Trail::size(&tree, 0);
     let tail = Trail::to_bytes(&tree, first_value, &events).split_off(first_end);
     let whole = bytes.len();
     match damage {
+        Damage::None => {}
         Damage::Empty => bytes.clear(),
         Damage::WrongVersion => bytes[0] = random.pick(&[0, 2, 255]),
         Damage::FirstMissing => bytes.truncate(1),
@@ -104,7 +124,12 @@ pub fn trail(random: &mut Random, damage: Damage) -> Vec<u8> {
             write_record(&mut bytes, &[0; 11]);
             bytes.truncate(random.between(whole + 2, whole + 12));
         }
-        _ => {}
+        Damage::EndsAtLimit
+        | Damage::BeginsAtLimit
+        | Damage::LengthCrossesLimit
+        | Damage::CrossesLimit
+        | Damage::CutAtLimit
+        | Damage::GoesOn => unreachable!("a long trail"),
     }
     bytes
 }
@@ -134,21 +159,25 @@ fn wrong_length(random: &mut Random, bytes: &mut Vec<u8>, tail: &[u8], length: u
 
 /// A trail that fills the first 65,536 bytes. The tree's size decides where the last record begins: with 6 nodes
 /// one event ends exactly at the limit, with 5 nodes one begins a byte before it.
-fn long(random: &mut Random, damage: Damage) -> Vec<u8> {
-    let count = match damage {
-        Damage::EndsAtLimit | Damage::BeginsAtLimit => 6,
-        Damage::LengthCrossesLimit => 5,
-        _ => random.pick(&[2, 3, 4, 7, 8, 12, 15, 16]),
+fn long(random: &mut Random, ending: Ending) -> Vec<u8> {
+    let count = match ending {
+        Ending::AtLimit | Ending::BeginsAtLimit => 6,
+        Ending::LengthCrossesLimit => 5,
+        Ending::CrossesLimit | Ending::CutAtLimit | Ending::GoesOn => {
+            random.pick(&[2, 3, 4, 7, 8, 12, 15, 16])
+        }
     };
     let tree = trees::with_count(random, count);
     let first_value = random.value();
     let events = events(random, tree, first_value, LIMIT / 13 + 2);
     let mut bytes = Trail::to_bytes(&tree, first_value, &events);
-    match damage {
-        Damage::EndsAtLimit | Damage::CutAtLimit => bytes.truncate(LIMIT),
-        Damage::BeginsAtLimit => bytes.truncate(LIMIT + random.pick(&[1, 2, 12, 13])),
-        Damage::GoesOn => bytes.resize(random.between(100_000, 300_000), 0),
-        _ => bytes.truncate(LIMIT + random.between(1, 13)),
+    match ending {
+        Ending::AtLimit | Ending::CutAtLimit => bytes.truncate(LIMIT),
+        Ending::BeginsAtLimit => bytes.truncate(LIMIT + random.pick(&[1, 2, 12, 13])),
+        Ending::LengthCrossesLimit | Ending::CrossesLimit => {
+            bytes.truncate(LIMIT + random.between(1, 13));
+        }
+        Ending::GoesOn => bytes.resize(random.between(100_000, 300_000), 0),
     }
     bytes
 }

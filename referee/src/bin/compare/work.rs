@@ -8,7 +8,7 @@ use crate::requests;
 use crate::tally::Tally;
 use crate::trails::{self, Damage};
 use referee::answer::Request;
-use referee::codes::Kind;
+use referee::kinds::{Answers, Kind, Value};
 use referee::trail::Trail;
 use std::sync::atomic::{AtomicBool, AtomicUsize, Ordering};
 use std::sync::Mutex;
@@ -106,12 +106,18 @@ fn input(unit: Unit, random: &mut Random, tally: &mut Tally) -> (Program, Vec<u8
             let mut stored = trail.first.map(|(_, first_value)| first_value);
             trail.run(|configuration, event, outcome| {
                 tally.event(Some(configuration), event, outcome);
-                match (Kind::from_code(event.kind), outcome) {
-                    (Some(Kind::Store), Ok(_)) => stored = Some(event.value),
-                    (Some(Kind::Load), Ok(step)) => {
+                let (Some(kind), Ok(step)) = (Kind::from_code(event.kind), outcome) else {
+                    return;
+                };
+                match kind.row().answers {
+                    Answers::TheValue => {
                         assert_eq!(Some(step.value), stored, "the model's load is stale");
                     }
-                    _ => {}
+                    Answers::Zero => {}
+                }
+                match kind.row().value {
+                    Value::Stored => stored = Some(event.value),
+                    Value::Zero => {}
                 }
             });
             (Program::Trail, input)
