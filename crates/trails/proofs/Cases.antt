@@ -12,9 +12,11 @@ use Rattle.rules.specs.Local.{loadNeeds, storeNeeds, storeTo, missTo, loadMissN
 use Rattle.rules.specs.Acquire.{asksFrom, sendAcquireNeeds, acquireFor, sendAcquireTo, acquireFits, takeAcquireNeeds, purposeFor, probedFor, takeAcquireTo}
 use Rattle.rules.specs.Grant.{grantFits, takeGrantNeeds, grantedRights, installed, takeGrantTo, sendGrantAckNeeds, confirmed, sendGrantAckTo, mayGrant, sendGrantNeeds, grantFor, entryFor, grantValue, sendGrantTo, takeGrantAckNeeds, takeGrantAckTo}
 use Rattle.rules.specs.Step.{resetOf, startOf, treeParents, rowOf, judged, onwardOf}
-use Rattle.trails.specs.Text.{bytes, spelled, field, line, nameText, names, endIn, badLine}
-use Rattle.trails.specs.Input.{number, firstOk, parentsOf, recordOk, eventOf}
-use Rattle.trails.specs.Trail.{closing, eventsFrom, resetBy, startedFrom, trailOf}
+use Rattle.octets.specs.BigEndian.{number}
+use Rattle.octets.specs.Fields.{eventAt}
+use Rattle.octets.specs.Versions.{longestFirst}
+use Rattle.lines.specs.Lines.{ascii, spelled, field, asked, line, nameText, names, endLine, badLine}
+use Rattle.trails.specs.Trail.{firstOk, parentsOf, recordOk, eventOf, closing, eventsFrom, resetBy, startedFrom, trailUnder, trailOf}
 
 -- a number below 256 in 8 bytes
 abbrev word : ℕ → List ℕ
@@ -35,26 +37,26 @@ wholeCase =
 -- what document 01 prints there
 abbrev printed : List ℕ
 printed =
-    bytes "1 4 1 0 0\n2 6 1 0 0\n3 7 0 0 0\n4 14 0 0 0\n5 12 1 0 0\n6 13 1 0 0\n7 15 0 0 0\n8 2 1 0 0\n9 1 1 0 9\n10 3 1 5 0\nend T TT\n"
+    ascii "1 4 1 0 0\n2 6 1 0 0\n3 7 0 0 0\n4 14 0 0 0\n5 12 1 0 0\n6 13 1 0 0\n7 15 0 0 0\n8 2 1 0 0\n9 1 1 0 9\n10 3 1 5 0\nend T TT\n"
 
 -- an event that is refused, and then a record that is bad
 abbrev broken : List ℕ → List ℕ
 broken r = start ++ event 1 1 0 0 ++ r
 
 abbrev breaks : List ℕ
-breaks = bytes "1 1 1 5 0\nbad 25\n"
+breaks = ascii "1 1 1 5 0\nbad 25\n"
 
 -- The whole case; no event; no version, a wrong one; no first record, one that is cut short, one with a bad tree; a record that
 -- is cut in the middle of its length, one that is cut short, one of another length.
 pub cases : (trailOf wholeCase ≡ printed)
-    × (trailOf start ≡ bytes "end TT N\n")
-    × (trailOf [] ≡ bytes "bad 0\n")
-    × (trailOf (2 ∷ drop 1 start) ≡ bytes "bad 0\n")
-    × (trailOf (take 1 start) ≡ bytes "bad 1\n")
-    × (trailOf (take 11 start) ≡ bytes "bad 1\n")
-    × (trailOf (take 11 start ++ (1 ∷ [])) ≡ bytes "bad 1\n")
+    × (trailOf start ≡ ascii "end TT N\n")
+    × (trailOf [] ≡ ascii "bad 0\n")
+    × (trailOf (2 ∷ drop 1 start) ≡ ascii "bad 0\n")
+    × (trailOf (take 1 start) ≡ ascii "bad 1\n")
+    × (trailOf (take 11 start) ≡ ascii "bad 1\n")
+    × (trailOf (take 11 start ++ (1 ∷ [])) ≡ ascii "bad 1\n")
     × (trailOf (broken (0 ∷ [])) ≡ breaks)
     × (trailOf (broken (take 12 (event 1 1 0 0))) ≡ breaks)
     × (trailOf (broken (0 ∷ 12 ∷ 1 ∷ 1 ∷ 0 ∷ word 0 ++ (0 ∷ []))) ≡ breaks)
-unfolding all any fill choose treeOk childIn leafIn someIn noneIn othersNoneIn memberIn nameOf otherOk eventOk placeRule nextPhase phaseAfter loadNeeds storeNeeds storeTo missTo loadMissNeeds storeMissNeeds evictNeeds evictTo asksFrom sendAcquireNeeds acquireFor sendAcquireTo acquireFits takeAcquireNeeds purposeFor probedFor takeAcquireTo grantFits takeGrantNeeds grantedRights installed takeGrantTo sendGrantAckNeeds confirmed sendGrantAckTo mayGrant sendGrantNeeds grantFor entryFor grantValue sendGrantTo takeGrantAckNeeds takeGrantAckTo resetOf startOf treeParents rowOf judged onwardOf spelled field line nameText names endIn badLine number firstOk parentsOf recordOk eventOf closing eventsFrom resetBy startedFrom trailOf
+unfolding all any fill choose treeOk childIn leafIn someIn noneIn othersNoneIn memberIn nameOf otherOk eventOk placeRule nextPhase phaseAfter loadNeeds storeNeeds storeTo missTo loadMissNeeds storeMissNeeds evictNeeds evictTo asksFrom sendAcquireNeeds acquireFor sendAcquireTo acquireFits takeAcquireNeeds purposeFor probedFor takeAcquireTo grantFits takeGrantNeeds grantedRights installed takeGrantTo sendGrantAckNeeds confirmed sendGrantAckTo mayGrant sendGrantNeeds grantFor entryFor grantValue sendGrantTo takeGrantAckNeeds takeGrantAckTo resetOf startOf treeParents rowOf judged onwardOf spelled field asked line nameText names endLine badLine number eventAt longestFirst firstOk parentsOf recordOk eventOf closing eventsFrom resetBy startedFrom trailUnder
 cases = (refl, refl, refl, refl, refl, refl, refl, refl, refl, refl)
