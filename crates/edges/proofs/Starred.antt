@@ -5,9 +5,8 @@ use mathlib.Core.List.{List, [], _∷_}
 use Prim.Native.Nat.{ℕ}
 use lib.ListN.{replicate}
 use lib.Dec.{eqb}
+-- Printed by tools/print: every definition that is shut.
 use Rattle.words.specs.Vocab.{all, any, fill, choose}
-use Rattle.rules.specs.Codes.{shared, sole, badTree, badEvent, wrongPlace, outOfTurn}
-use Rattle.rules.specs.Kinds.{kindLoad, kindStore, kindLoadMiss, kindStoreMiss, kindEvict, kindSendAcquire, kindTakeAcquire, kindSendProbe, kindTakeProbe, kindSendProbeAck, kindTakeGrant, kindSendGrantAck, kindSendGrant, kindTakeGrantAck, kindSendRelease}
 use Rattle.rules.specs.Tree.{treeOk, childIn, leafIn}
 use Rattle.rules.specs.Names.{someIn, noneIn, othersNoneIn, memberIn, nameOf}
 use Rattle.rules.specs.Configuration.{nodeRule, linkRule, pairRule, rowOk, standsRule, serves, nodeOk, configurationOk}
@@ -15,10 +14,13 @@ use Rattle.rules.specs.Events.{otherOk, eventOk, placeRule}
 use Rattle.rules.specs.Settle.{nextPhase, phaseAfter}
 use Rattle.rules.specs.Local.{loadNeeds, storeNeeds, storeTo, missTo, loadMissNeeds, storeMissNeeds, evictNeeds, evictTo}
 use Rattle.rules.specs.Acquire.{asksFrom, sendAcquireNeeds, acquireFor, sendAcquireTo, acquireFits, takeAcquireNeeds, purposeFor, probedFor, takeAcquireTo}
-use Rattle.rules.specs.Probe.{sendProbeNeeds, capFor, sendProbeTo, takeProbeNeeds, probedBy, takeProbeTo, capMet, sendProbeAckNeeds, carried}
+use Rattle.rules.specs.Probe.{sendProbeNeeds, capFor, sendProbeTo, takeProbeNeeds, probedBy, takeProbeTo, capMet, sendProbeAckNeeds, capRights, fallen, valueAt, carried, probeAckFor, sendProbeAckTo, takeProbeAckNeeds, dataTaken, takeProbeAckTo}
 use Rattle.rules.specs.Grant.{grantFits, takeGrantNeeds, grantedRights, installed, takeGrantTo, sendGrantAckNeeds, confirmed, sendGrantAckTo, mayGrant, sendGrantNeeds, grantFor, entryFor, grantValue, sendGrantTo, takeGrantAckNeeds, takeGrantAckTo}
-use Rattle.rules.specs.Release.{sendReleaseNeeds, releaseFor, sendReleaseTo}
-use Rattle.rules.specs.Step.{resetOf, startOf, treeParents, rowOf, judged, stepOf, onwardOf}
+use Rattle.rules.specs.Release.{sendReleaseNeeds, releaseFor, sendReleaseTo, takeReleaseNeeds, takeReleaseTo, sendReleaseAckNeeds, sendReleaseAckTo, takeReleaseAckNeeds, takeReleaseAckTo}
+use Rattle.rules.specs.Step.{treeParents, startOf, resetOf, rowOf, judged, stepOf, onwardOf}
+-- End of print.
+use Rattle.rules.specs.Codes.{shared, sole, badTree, badEvent, wrongPlace, outOfTurn}
+use Rattle.rules.specs.Kinds.{kindLoad, kindStore, kindLoadMiss, kindStoreMiss, kindEvict, kindSendAcquire, kindTakeAcquire, kindSendProbe, kindTakeProbe, kindSendProbeAck, kindTakeGrant, kindSendGrantAck, kindSendGrant, kindTakeGrantAck, kindSendRelease}
 use Rattle.rules.specs.declared.Event.{Event}
 use Rattle.rules.specs.declared.Answer.{Answer}
 
@@ -92,5 +94,5 @@ every [] = true
 every (r ∷ rs) = eqb (r .before .number) 0 && eqb (r .answer .number) (r .number) && every rs
 
 pub edges : every starred ≡ true
-unfolding after all any fill choose treeOk childIn leafIn someIn noneIn othersNoneIn memberIn nameOf nodeRule linkRule pairRule rowOk standsRule serves nodeOk configurationOk otherOk eventOk placeRule nextPhase phaseAfter loadNeeds storeNeeds storeTo missTo loadMissNeeds storeMissNeeds evictNeeds evictTo asksFrom sendAcquireNeeds acquireFor sendAcquireTo acquireFits takeAcquireNeeds purposeFor probedFor takeAcquireTo sendProbeNeeds capFor sendProbeTo takeProbeNeeds probedBy takeProbeTo capMet sendProbeAckNeeds grantFits takeGrantNeeds grantedRights installed takeGrantTo sendGrantAckNeeds confirmed sendGrantAckTo mayGrant sendGrantNeeds grantFor entryFor grantValue sendGrantTo takeGrantAckNeeds takeGrantAckTo sendReleaseNeeds releaseFor sendReleaseTo carried resetOf startOf treeParents rowOf judged stepOf onwardOf
+unfolding after all any fill choose treeOk childIn leafIn someIn noneIn othersNoneIn memberIn nameOf nodeRule linkRule pairRule rowOk standsRule serves nodeOk configurationOk otherOk eventOk placeRule nextPhase phaseAfter loadNeeds storeNeeds storeTo missTo loadMissNeeds storeMissNeeds evictNeeds evictTo asksFrom sendAcquireNeeds acquireFor sendAcquireTo acquireFits takeAcquireNeeds purposeFor probedFor takeAcquireTo sendProbeNeeds capFor sendProbeTo takeProbeNeeds probedBy takeProbeTo capMet sendProbeAckNeeds capRights fallen valueAt carried probeAckFor sendProbeAckTo takeProbeAckNeeds dataTaken takeProbeAckTo grantFits takeGrantNeeds grantedRights installed takeGrantTo sendGrantAckNeeds confirmed sendGrantAckTo mayGrant sendGrantNeeds grantFor entryFor grantValue sendGrantTo takeGrantAckNeeds takeGrantAckTo sendReleaseNeeds releaseFor sendReleaseTo takeReleaseNeeds takeReleaseTo sendReleaseAckNeeds sendReleaseAckTo takeReleaseAckNeeds takeReleaseAckTo treeParents startOf resetOf rowOf judged stepOf onwardOf
 edges = refl

@@ -3,7 +3,6 @@ use mathlib.Core.Path.{_≡_}
 use mathlib.Core.List.{List, [], _∷_}
 use Prim.Native.Nat.{ℕ, suc, _+_, _*_, _^_, _<_, _≤_, zero, min}
 use native.Mathlib.Numerals.{add-one}
-use native.Mathlib.Decide.{decLt}
 use native.Mathlib.Omega.{arith}
 use lib.ListN.{length, length-append, List·getD-eq-default}
 use Rattle.rules.specs.Names.{nameIn}

@@ -7,7 +7,7 @@ use native.Mathlib.Numerals.{add-one}
 use native.Mathlib.Omega.{arith}
 use mir.Syntax.{w64}
 use mir.Val.{Fits}
-use lib.ListN.{length, take, drop, getD, length-drop, length-append, drop-of-length-le, List·getD-eq-default, List·getD-append}
+use lib.ListN.{length, take, drop, length-drop, length-append, drop-of-length-le, List·getD-eq-default, List·getD-append}
 use lib.Seq.{take-all, drop-length, drop-drop, getD-drop, getD-at}
 use Rattle.octets.specs.BigEndian.{byte, number, word, wordSize, bytesOf}
 use Rattle.octets.specs.Fields.{eventAt}

@@ -2,13 +2,13 @@
 use mathlib.Core.Path.{_≡_, refl, _∙_, sym}
 use mathlib.Core.Bool.{Bool, false}
 use mathlib.Core.List.{List, [], _∷_, _++_, append-assoc, append-nil, flatMap}
-use Prim.Native.Nat.{ℕ, suc, _+_, _<_, _≤_, min}
+use Prim.Native.Nat.{ℕ, suc, _+_, _*_, _<_, _≤_, min}
 use native.Mathlib.Nat.{add-zero}
 use native.Mathlib.Numerals.{add-one}
 use native.Mathlib.Decide.{decLt}
 use native.Mathlib.Omega.{arith}
-use lib.ListN.{length, take, getD, set, length-append, length-set}
-use lib.Seq.{sets, set-out, length-sets, take-suc, take-all}
+use lib.ListN.{length, take, getD, set, length-append, drop-of-length-le}
+use lib.Seq.{sets, sets-eq, set-out, length-sets, take-suc, take-all}
 use Rattle.octets.specs.Fields.{flag, flags}
 use Rattle.octets.specs.Written.{Wrote}
 
@@ -41,6 +41,13 @@ module _ {a b c : List ℕ} {at p r : ℕ} {t u : List ℕ} where
         buffer = g .buffer ∙ rw (f .buffer) (sets-next a at t u p (f .next));
         next = g .next ∙ rw (f .next, f .buffer, length-sets, length-append) (omega arith);
       }
+
+-- three and four, in the order in which a function puts them
+pub wrote-three : {a b c d : List ℕ} {at p q r : ℕ} {t u v : List ℕ} → Wrote a at t b p → Wrote b p u c q → Wrote c q v d r → Wrote a at (t ++ u ++ v) d r
+wrote-three f g h = wrote-then (wrote-then f g) h
+
+pub wrote-four : {a b c d e : List ℕ} {at p q r z : ℕ} {t u v w : List ℕ} → Wrote a at t b p → Wrote b p u c q → Wrote c q v d r → Wrote d r w e z → Wrote a at (t ++ u ++ v ++ w) e z
+wrote-four f g h i = wrote-then (wrote-three f g h) i
 
 -- a buffer keeps its length
 pub wrote-length : {a b : List ℕ} {at r : ℕ} {t : List ℕ} → Wrote a at t b r → length b ≡ length a
@@ -87,6 +94,11 @@ module _ {A : Type 0} (f : A → List ℕ) where
   unfolding flatMap
   flat-one x = append-nil (f x)
 
+  pub flat-length : (n : ℕ) → ((x : A) → length (f x) ≡ n) → (l : List A) → length (flatMap f l) ≡ length l * n
+  unfolding flatMap
+  flat-length n h [] = omega arith
+  flat-length n h (x ∷ l) = rw (length-append, h x, flat-length n h l) (omega arith)
+
   pub each-none : (a : List ℕ) (at : ℕ) (l : List A) {p : ℕ} → p ≡ min at (length a) → Wrote a at (flatMap f (take 0 l)) a p
   unfolding flatMap
   each-none a at l e = wrote-none a at e
@@ -105,6 +117,12 @@ pub ruleset each = (each-none, each-more, each-all, wrote-length, arith)
 -- where all of it fits, the place after it
 pub wrote-fits : {a b : List ℕ} {at r : ℕ} {t : List ℕ} → Wrote a at t b r → at + length t ≤ length a → r ≡ at + length t
 wrote-fits w h = omega (arith, w .next)
+
+-- a buffer that is written whole
+pub wrote-whole : {a b : List ℕ} {r : ℕ} (t : List ℕ) → Wrote a 0 t b r → length t ≡ length a → b ≡ t
+wrote-whole {a} t w e =
+    let h : length a ≤ 0 + length t = omega arith in
+    w .buffer ∙ sets-eq t a 0 (omega arith) ∙ rw (drop-of-length-le a h) (append-nil t)
 
 -- the promise leaves one buffer and one place
 pub wrote-once : {a b c : List ℕ} {at p r : ℕ} {t : List ℕ} → Wrote a at t b p → Wrote a at t c r → (b ≡ c) × (p ≡ r)

@@ -3,7 +3,7 @@ ghost use mathlib.Core.Path.{_≡_};
 ghost use Prim.Native.Nat.{_<_, _≤_};
 ghost use lib.ListN.{drop};
 ghost use Rattle.octets.specs.BigEndian.{byte, number, word};
-ghost use Rattle.octets.specs.Fields.{flagAt, eventAt};
+ghost use Rattle.octets.specs.Fields.{flagAt, flagOk, eventAt};
 ghost use Rattle.octets.specs.Prefixed.{lengthAt};
 use rules::Event;
 
@@ -63,6 +63,13 @@ pub fn flag_at(s: &[u8], at: usize) -> bool
     ensures { λ r. ⌜ r ≡ flagAt (now (s .entry)) at ⌝ }
 {
     byte_at(s, at) != 0
+}
+
+// Whether the byte is a flag.
+pub fn flag_ok(s: &[u8], at: usize) -> bool
+    ensures { λ r. ⌜ r ≡ flagOk (now (s .entry)) at ⌝ }
+{
+    byte_at(s, at) <= 1
 }
 
 // The event in the eleven bytes from `at` on.

@@ -3,20 +3,27 @@ use mathlib.Core.Path.{_≡_, refl}
 use mathlib.Core.List.{List, [], _∷_, _++_}
 use Prim.Native.Nat.{ℕ}
 use lib.ListN.{take, drop}
+-- Printed by tools/print: every definition that is shut.
 use Rattle.words.specs.Vocab.{all, any, fill, choose}
 use Rattle.rules.specs.Tree.{treeOk, childIn, leafIn}
 use Rattle.rules.specs.Names.{someIn, noneIn, othersNoneIn, memberIn, nameOf}
+use Rattle.rules.specs.Configuration.{nodeRule, linkRule, pairRule, rowOk, standsRule, serves, nodeOk, configurationOk}
 use Rattle.rules.specs.Events.{otherOk, eventOk, placeRule}
 use Rattle.rules.specs.Settle.{nextPhase, phaseAfter}
 use Rattle.rules.specs.Local.{loadNeeds, storeNeeds, storeTo, missTo, loadMissNeeds, storeMissNeeds, evictNeeds, evictTo}
 use Rattle.rules.specs.Acquire.{asksFrom, sendAcquireNeeds, acquireFor, sendAcquireTo, acquireFits, takeAcquireNeeds, purposeFor, probedFor, takeAcquireTo}
+use Rattle.rules.specs.Probe.{sendProbeNeeds, capFor, sendProbeTo, takeProbeNeeds, probedBy, takeProbeTo, capMet, sendProbeAckNeeds, capRights, fallen, valueAt, carried, probeAckFor, sendProbeAckTo, takeProbeAckNeeds, dataTaken, takeProbeAckTo}
 use Rattle.rules.specs.Grant.{grantFits, takeGrantNeeds, grantedRights, installed, takeGrantTo, sendGrantAckNeeds, confirmed, sendGrantAckTo, mayGrant, sendGrantNeeds, grantFor, entryFor, grantValue, sendGrantTo, takeGrantAckNeeds, takeGrantAckTo}
-use Rattle.rules.specs.Step.{resetOf, startOf, treeParents, rowOf, judged, onwardOf}
-use Rattle.octets.specs.BigEndian.{number}
-use Rattle.octets.specs.Fields.{eventAt}
+use Rattle.rules.specs.Release.{sendReleaseNeeds, releaseFor, sendReleaseTo, takeReleaseNeeds, takeReleaseTo, sendReleaseAckNeeds, sendReleaseAckTo, takeReleaseAckNeeds, takeReleaseAckTo}
+use Rattle.rules.specs.Step.{treeParents, startOf, resetOf, rowOf, judged, stepOf, onwardOf}
+use Rattle.octets.specs.BigEndian.{number, bytesOf}
+use Rattle.octets.specs.Fields.{flagByte, eventAt}
 use Rattle.octets.specs.Versions.{longestFirst}
-use Rattle.lines.specs.Lines.{ascii, spelled, field, asked, line, nameText, names, endLine, badLine}
-use Rattle.trails.specs.Trail.{firstOk, parentsOf, recordOk, eventOf, closing, eventsFrom, resetBy, startedFrom, trailUnder, trailOf}
+use Rattle.lines.specs.Lines.{spelled, field, asked, line, nameText, names, endLine, badLine}
+use Rattle.trails.specs.Trail.{firstOk, parentsOf, recordOk, eventOf, closingIn, eventsFrom, resetBy, startedFrom, trailUnder}
+-- End of print.
+use Rattle.lines.specs.Lines.{ascii}
+use Rattle.trails.specs.Trail.{trailOf}
 
 -- a number below 256 in 8 bytes
 abbrev word : ℕ → List ℕ
@@ -58,5 +65,5 @@ pub cases : (trailOf wholeCase ≡ printed)
     × (trailOf (broken (0 ∷ [])) ≡ breaks)
     × (trailOf (broken (take 12 (event 1 1 0 0))) ≡ breaks)
     × (trailOf (broken (0 ∷ 12 ∷ 1 ∷ 1 ∷ 0 ∷ word 0 ++ (0 ∷ []))) ≡ breaks)
-unfolding all any fill choose treeOk childIn leafIn someIn noneIn othersNoneIn memberIn nameOf otherOk eventOk placeRule nextPhase phaseAfter loadNeeds storeNeeds storeTo missTo loadMissNeeds storeMissNeeds evictNeeds evictTo asksFrom sendAcquireNeeds acquireFor sendAcquireTo acquireFits takeAcquireNeeds purposeFor probedFor takeAcquireTo grantFits takeGrantNeeds grantedRights installed takeGrantTo sendGrantAckNeeds confirmed sendGrantAckTo mayGrant sendGrantNeeds grantFor entryFor grantValue sendGrantTo takeGrantAckNeeds takeGrantAckTo resetOf startOf treeParents rowOf judged onwardOf spelled field asked line nameText names endLine badLine number eventAt longestFirst firstOk parentsOf recordOk eventOf closing eventsFrom resetBy startedFrom trailUnder
+unfolding all any fill choose treeOk childIn leafIn someIn noneIn othersNoneIn memberIn nameOf nodeRule linkRule pairRule rowOk standsRule serves nodeOk configurationOk otherOk eventOk placeRule nextPhase phaseAfter loadNeeds storeNeeds storeTo missTo loadMissNeeds storeMissNeeds evictNeeds evictTo asksFrom sendAcquireNeeds acquireFor sendAcquireTo acquireFits takeAcquireNeeds purposeFor probedFor takeAcquireTo sendProbeNeeds capFor sendProbeTo takeProbeNeeds probedBy takeProbeTo capMet sendProbeAckNeeds capRights fallen valueAt carried probeAckFor sendProbeAckTo takeProbeAckNeeds dataTaken takeProbeAckTo grantFits takeGrantNeeds grantedRights installed takeGrantTo sendGrantAckNeeds confirmed sendGrantAckTo mayGrant sendGrantNeeds grantFor entryFor grantValue sendGrantTo takeGrantAckNeeds takeGrantAckTo sendReleaseNeeds releaseFor sendReleaseTo takeReleaseNeeds takeReleaseTo sendReleaseAckNeeds sendReleaseAckTo takeReleaseAckNeeds takeReleaseAckTo treeParents startOf resetOf rowOf judged stepOf onwardOf number bytesOf flagByte eventAt longestFirst spelled field asked line nameText names endLine badLine firstOk parentsOf recordOk eventOf closingIn eventsFrom resetBy startedFrom trailUnder
 cases = (refl, refl, refl, refl, refl, refl, refl, refl, refl, refl)

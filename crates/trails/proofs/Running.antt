@@ -19,7 +19,7 @@ use Rattle.octets.specs.Prefixed.{window, reach, lengthAt}
 use Rattle.octets.specs.Written.{Wrote}
 use Rattle.octets.proofs.BytesWritten.{wrote-then, wrote-same}
 use Rattle.lines.specs.Lines.{line, endLine, badLine}
-use Rattle.trails.specs.Trail.{recordSize, recordAt, recordOk, eventOf, closing, eventsFrom, lineOf}
+use Rattle.trails.specs.Trail.{recordSize, recordAt, recordOk, eventOf, closingIn, closing, eventsFrom, lineOf}
 
 -- the rest, written from p on, makes t of what stood in the buffer at first
 pub record Left (o₀ t o : List ℕ) (p : ℕ) (rest : List ℕ) : Type 0 where
@@ -102,11 +102,11 @@ turned {o₀} {t} {o} {o′} {p} {p′} v s at i c {r} {e} {a} l h q ok f g w =
 pub closes : {o₀ t o o′ : List ℕ} {p r z : ℕ} (v n : ℕ) (s : List ℕ) (at i : ℕ) (c : State) → Left o₀ t o p (eventsFrom v n s at i c) → z ≡ at → recordOk s at ≡ false → Wrote o p (closing s z c) o′ r → Wrote o₀ 0 t o′ r
 closes v n s at i c l e h w = l .then (wrote-same (rw e (sym (stops v n s at i c h))) w)
 
-module _ {o o′ : List ℕ} {at r : ℕ} (s : List ℕ) (z : ℕ) (c : State) where
-  pub ends : length s ≤ z → Wrote o at (endLine (c .count) (c .rights) (c .entries)) o′ r → Wrote o at (closing s z c) o′ r
-  unfolding closing
+module _ {o o′ : List ℕ} {at r : ℕ} (s : List ℕ) (z n : ℕ) (rs es : List ℕ) where
+  pub ends : length s ≤ z → Wrote o at (endLine n rs es) o′ r → Wrote o at (closingIn s z n rs es) o′ r
+  unfolding closingIn
   ends h w = wrote-same (sym (choose-true _ _ (le-leb (length s) z h))) w
 
-  pub breaks : z < length s → Wrote o at (badLine z) o′ r → Wrote o at (closing s z c) o′ r
-  unfolding closing
+  pub breaks : z < length s → Wrote o at (badLine z) o′ r → Wrote o at (closingIn s z n rs es) o′ r
+  unfolding closingIn
   breaks h w = wrote-same (sym (choose-false _ _ (lt-leb (length s) z h))) w

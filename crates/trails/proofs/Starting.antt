@@ -1,5 +1,5 @@
 -- The first record, reset, and the trail as a whole.
-use mathlib.Core.Path.{_≡_, _∙_, sym, ap, subst, subst⁻¹}
+use mathlib.Core.Path.{_≡_, _∙_, sym, ap, subst}
 use mathlib.Core.Bool.{Bool, true, false, not, _&&_}
 use mathlib.Core.List.{List, _++_}
 use mathlib.Core.Logic.{_⊎_, inl, inr}

@@ -66,8 +66,11 @@ abbrev pub lineOf : ℕ → Event → Answer → List ℕ
 lineOf i e a = line i (e .kind) (e .node) (a .number) (a .value)
 
 -- where no good record stands at `at`: "the input ends or a record is bad"
-unfoldable pub closing : List ℕ → ℕ → State → List ℕ
-closing s at c = choose (leb (length s) at) (endLine (c .count) (c .rights) (c .entries)) (badLine at)
+unfoldable pub closingIn : List ℕ → ℕ → ℕ → List ℕ → List ℕ → List ℕ
+closingIn s at n rs es = choose (leb (length s) at) (endLine n rs es) (badLine at)
+
+abbrev pub closing : List ℕ → ℕ → State → List ℕ
+closing s at c = closingIn s at (c .count) (c .rights) (c .entries)
 
 -- "reads one event after another": the text from the record at `at` on, whose event has the index i, in the configuration c;
 -- n is as many records as the window could hold, and more

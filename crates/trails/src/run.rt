@@ -6,7 +6,7 @@ ghost use Rattle.model.specs.Answered.{answered};
 ghost use Rattle.octets.specs.Prefixed.{window, reach};
 ghost use Rattle.octets.specs.Written.{Wrote};
 ghost use Rattle.lines.specs.Lines.{line};
-ghost use Rattle.trails.specs.Trail.{First, room, shortest, firstLength, closing, eventOf, eventsFrom, startedFrom, resetBy};
+ghost use Rattle.trails.specs.Trail.{First, room, shortest, firstLength, closingIn, eventOf, eventsFrom, startedFrom, resetBy};
 use crate::ROOM;
 use crate::first::parents;
 use lines::put_bad;
@@ -21,6 +21,7 @@ use octets::read::length_at;
 use octets::read::word_at;
 use rules::Answer;
 use rules::Event;
+use rules::State;
 
 // An event record with its length.
 const RECORD: usize = PREFIX + EVENT;
@@ -41,13 +42,21 @@ fn put_next(out: &mut [u8; ROOM], at: usize, index: u64, ev: Event, number: u8, 
     put_line(out, at, index, ev, number, value)
 }
 
-// The last line: the input ended at `end`, or a bad record stands there.
-fn put_closing(input: &[u8], out: &mut [u8; ROOM], at: usize, c: Config, end: usize) -> usize
-    ensures { λ r. ⌜ Wrote (now (out .entry)) at (closing (now (input .entry)) end (c .state)) (now (out .exit)) r ⌝ }
+// The last line: the input ended at `end`, or a bad record stands there. The configuration's arrays are lent, not copied.
+fn put_closing<'a>(
+    input: &[u8],
+    out: &mut [u8; ROOM],
+    at: usize,
+    end: usize,
+    n: u8,
+    rights: &'a [u8; State::NODES],
+    entries: &'a [u8; State::CELLS],
+) -> usize
+    ensures { λ r. ⌜ Wrote (now (out .entry)) at (closingIn (now (input .entry)) end n (now (rights .entry)) (now (entries .entry))) (now (out .exit)) r ⌝ }
     ensures { λ r. ⌜ r ≤ at + 800 ⌝ }
 {
     if end >= input.len() {
-        return put_end(out, at, c.state.count, &c.state.rights, &c.state.entries);
+        return put_end(out, at, n, rights, entries);
     }
     put_bad(out, at, end)
 }
@@ -91,7 +100,15 @@ fn events(input: &[u8], out: &mut [u8; ROOM], version: u8, start: Config, first:
         index = index + 1;
         at = at + RECORD;
     };
-    put_closing(input, out, p, c, end)
+    put_closing(
+        input,
+        out,
+        p,
+        end,
+        c.state.count,
+        &c.state.rights,
+        &c.state.entries,
+    )
 }
 
 // Reset, as the first record asks for it.

@@ -1,6 +1,6 @@
 -- `put_asked` meets its contract: three numbers one after the other.
 use borrow.Author.Needs.{needs}
-use Rattle.octets.proofs.BytesWritten.{wrote-then}
+use Rattle.octets.proofs.BytesWritten.{wrote-three}
 use Rattle.lines.specs.Lines.{asked}
 use Rattle.lines.proofs.put_asked.Statement.{statement}
 use Rattle.lines.proofs.put_asked.Tie as tie
@@ -15,4 +15,4 @@ put-asked-spec =
     (λ c. search needs)
     (λ c κs. search needs)
     (λ c. search needs)
-    (λ c. search (wrote-then) depth 12))
+    (λ c. search (wrote-three)))

@@ -1,6 +1,6 @@
 -- `put_end` meets its contract: three texts one after the other.
 use borrow.Author.Needs.{needs}
-use Rattle.octets.proofs.BytesWritten.{wrote-then}
+use Rattle.octets.proofs.BytesWritten.{wrote-three}
 use Rattle.lines.specs.Lines.{endLine}
 use Rattle.lines.proofs.put_end.Statement.{statement}
 use Rattle.lines.proofs.put_end.Tie as tie
@@ -14,4 +14,4 @@ put-end-spec =
     (λ c κs. search needs)
     (λ c κs. search needs)
     (λ c. search needs)
-    (λ c. search (wrote-then) depth 12))
+    (λ c. search (wrote-three)))

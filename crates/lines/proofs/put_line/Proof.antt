@@ -1,6 +1,6 @@
 -- `put_line` meets its contract: what was asked, then two numbers.
 use borrow.Author.Needs.{needs}
-use Rattle.octets.proofs.BytesWritten.{wrote-then}
+use Rattle.octets.proofs.BytesWritten.{wrote-three}
 use Rattle.lines.specs.Lines.{line}
 use Rattle.lines.proofs.put_line.Statement.{statement}
 use Rattle.lines.proofs.put_line.Tie as tie
@@ -13,4 +13,4 @@ put-line-spec =
     (λ c κs. search needs)
     (λ c κs. search needs)
     (λ c. search needs)
-    (λ c. search (wrote-then) depth 12))
+    (λ c. search (wrote-three)))

@@ -1,6 +1,5 @@
 -- `put_flag` meets its contract: the byte is the flag's.
 use borrow.Author.Needs.{needs}
-use Rattle.octets.specs.Fields.{flagByte}
 use Rattle.octets.proofs.BytesWritten.{wrote-byte}
 use Rattle.octets.proofs.put.put_flag.Statement.{statement}
 use Rattle.octets.proofs.put.put_flag.Tie as tie

@@ -1,6 +1,5 @@
 -- `event_at` meets its contract, field by field.
 use borrow.Author.Needs.{needs}
-use Rattle.octets.specs.Fields.{eventAt}
 use Rattle.octets.proofs.BytesRead.{event-from}
 use Rattle.octets.proofs.read.event_at.Statement.{statement}
 use Rattle.octets.proofs.read.event_at.Tie as tie

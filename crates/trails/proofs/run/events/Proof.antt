@@ -98,6 +98,7 @@ events-spec =
       turned _ (given t) (t .events .at) _ _ (t .events .inv .4) (search needs) q ok (told .event .ensures) (answered .onward .ensures) (c .put-next .ensures .0),
     ))
     (λ c κs. search needs)
-    (λ c. let j = c .before .before in
+    (λ c. let lent = c .before .before .before in
+    let j = lent .before .before in
     let g = stopped j in
     (closes _ _ _ _ _ _ (j .before .events .inv .4) (g .0) (g .1) (c .put-closing .ensures .0), search needs)))

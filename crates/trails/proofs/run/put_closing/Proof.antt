@@ -1,6 +1,5 @@
 -- `put_closing` meets its contract: the last line is `end` or `bad P`.
 use borrow.Author.Needs.{needs}
-use native.Mathlib.Omega.{arith}
 use Rattle.lines.proofs.Composing.{end-near, bad-near}
 use Rattle.trails.proofs.Running.{ends, breaks}
 use Rattle.trails.proofs.run.put_closing.Statement.{statement}

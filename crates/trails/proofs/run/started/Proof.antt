@@ -1,6 +1,5 @@
 -- `started` meets its contract: a bad tree is bad at once.
 use borrow.Author.Needs.{needs}
-use native.Mathlib.Omega.{arith}
 use Rattle.trails.proofs.Starting.{bad-alone, few-nodes, bad-tree, good-tree}
 use Rattle.trails.proofs.run.started.Statement.{statement}
 use Rattle.trails.proofs.run.started.Tie as tie
