@@ -3,6 +3,7 @@ use libc::STDIN_FILENO;
 use libc::STDOUT_FILENO;
 use model::Answer;
 use model::Config;
+use octets::limits::EVENT;
 use records::layout::Layout;
 
 // The first bytes of the requests.
@@ -23,8 +24,8 @@ fn written(a: Answer) -> bool {
 }
 
 fn reset_answered() -> bool {
-    let mut bytes = [0u8; Layout::RESET];
-    if io::read_full(STDIN_FILENO, &mut bytes) < Layout::RESET {
+    let mut bytes = [0u8; records::RESET];
+    if io::read_full(STDIN_FILENO, &mut bytes) < records::RESET {
         return false;
     }
     let parents = records::parents_of(&bytes);
@@ -40,13 +41,13 @@ fn step_answered(kind: u8) -> bool {
     if !records::flags_ok(&bytes) {
         return false;
     }
-    let mut tail = [0u8; Layout::EVENT];
-    if io::read_full(STDIN_FILENO, &mut tail) < Layout::EVENT {
+    let mut tail = [0u8; EVENT];
+    if io::read_full(STDIN_FILENO, &mut tail) < EVENT {
         return false;
     }
     let s = records::state_of(&bytes);
     let c = Config { state: s };
-    let ev = records::event_of(&tail);
+    let ev = octets::read::event_at(&tail, 0);
     if kind == STEP {
         return written(c.step(ev));
     }

@@ -5,10 +5,8 @@ use mathlib.Core.List.{List, [], _∷_}
 use Prim.Native.Nat.{ℕ}
 use lib.ListN.{replicate}
 use lib.Dec.{eqb}
+-- Printed by tools/print: every definition that is shut.
 use Rattle.words.specs.Vocab.{all, any, fill, choose}
-use Rattle.rules.specs.Codes.{accepts, shared, sole, badTree, badEvent, wrongPlace, outOfTurn}
-use Rattle.rules.specs.Kinds.{kindLoad, kindStore, kindLoadMiss, kindStoreMiss, kindEvict, kindSendAcquire, kindTakeAcquire, kindSendProbe, kindTakeProbe, kindSendProbeAck, kindTakeGrant, kindSendGrantAck, kindSendGrant, kindTakeGrantAck, kindSendRelease}
--- opened: rules
 use Rattle.rules.specs.Tree.{treeOk, childBy, leafIn}
 use Rattle.rules.specs.Names.{someIn, noneIn, othersNoneIn, memberIn, nameOf}
 use Rattle.rules.specs.Messages.{carriesUp, installs, fromTrunk, isProbeAck, isRelease, isGrant, carriesDown, grantedRights, entryFor}
@@ -23,8 +21,9 @@ use Rattle.rules.specs.Release.{sendReleaseNeeds, releaseFor, sendReleaseDoes, 
 use Rattle.rules.specs.Table.{listed, numbered}
 use Rattle.rules.specs.Events.{otherFits, valueFits, placeFits, eventOk, placeOk}
 use Rattle.rules.specs.Step.{treeParent, treeParents, startOf, resetOf, endOf, linkThere, turnOk, probedIn, nextOf, valueOf, firstOf, answerOf, stepOf, onwardOf}
--- opened: end
--- besides: after
+-- End of print.
+use Rattle.rules.specs.Codes.{accepts, shared, sole, badTree, badEvent, wrongPlace, outOfTurn}
+use Rattle.rules.specs.Kinds.{kindLoad, kindStore, kindLoadMiss, kindStoreMiss, kindEvict, kindSendAcquire, kindTakeAcquire, kindSendProbe, kindTakeProbe, kindSendProbeAck, kindTakeGrant, kindSendGrantAck, kindSendGrant, kindTakeGrantAck, kindSendRelease}
 use Rattle.rules.specs.declared.Event.{Event}
 use Rattle.rules.specs.declared.Answer.{Answer}
 
@@ -98,5 +97,5 @@ every [] = true
 every (r ∷ rs) = eqb (r .before .number) accepts && eqb (r .answer .number) (r .number) && every rs
 
 pub edges : every starred ≡ true
-unfolding all any fill choose treeOk childBy leafIn someIn noneIn othersNoneIn memberIn nameOf carriesUp installs fromTrunk isProbeAck isRelease isGrant carriesDown grantedRights entryFor copyOk serving evicting workOk atLeaf leafOk hasRequester requesterOk childOk probeOk nodeOk upOk downOk linkOk memberOk entryOk pairOk slotsEmpty blank standsOk rightAt configurationOk valueAt dirtyAt dataTaken installed nextPhase phaseAfter settledPhase loadNeeds storeNeeds storeDoes loadMissNeeds loadMissDoes storeMissNeeds storeMissDoes evictNeeds evictDoes held asksFrom sendAcquireNeeds acquireFor sendAcquireDoes acquireFits takeAcquireNeeds purposeFor takeAcquireDoes probedFor sendProbeNeeds capFor sendProbeDoes servesProbes takeProbeNeeds takeProbeDoes probedBy capMet sendProbeAckNeeds capRights fallen carried probeAckFor sendProbeAckDoes dataFits takeProbeAckNeeds takeProbeAckDoes grantFits takeGrantNeeds takeGrantDoes sendGrantAckNeeds confirmed sendGrantAckDoes mayGrant sendGrantNeeds grantFor grantValue sendGrantDoes takeGrantAckNeeds takeGrantAckDoes sendReleaseNeeds releaseFor sendReleaseDoes awaits takeReleaseNeeds takeReleaseDoes sendReleaseAckNeeds sendReleaseAckDoes takeReleaseAckNeeds takeReleaseAckDoes listed numbered otherFits valueFits placeFits eventOk placeOk treeParent treeParents startOf resetOf endOf linkThere turnOk probedIn nextOf valueOf firstOf answerOf stepOf onwardOf after
+unfolding after all any fill choose treeOk childBy leafIn someIn noneIn othersNoneIn memberIn nameOf carriesUp installs fromTrunk isProbeAck isRelease isGrant carriesDown grantedRights entryFor copyOk serving evicting workOk atLeaf leafOk hasRequester requesterOk childOk probeOk nodeOk upOk downOk linkOk memberOk entryOk pairOk slotsEmpty blank standsOk rightAt configurationOk valueAt dirtyAt dataTaken installed nextPhase phaseAfter settledPhase loadNeeds storeNeeds storeDoes loadMissNeeds loadMissDoes storeMissNeeds storeMissDoes evictNeeds evictDoes held asksFrom sendAcquireNeeds acquireFor sendAcquireDoes acquireFits takeAcquireNeeds purposeFor takeAcquireDoes probedFor sendProbeNeeds capFor sendProbeDoes servesProbes takeProbeNeeds takeProbeDoes probedBy capMet sendProbeAckNeeds capRights fallen carried probeAckFor sendProbeAckDoes dataFits takeProbeAckNeeds takeProbeAckDoes grantFits takeGrantNeeds takeGrantDoes sendGrantAckNeeds confirmed sendGrantAckDoes mayGrant sendGrantNeeds grantFor grantValue sendGrantDoes takeGrantAckNeeds takeGrantAckDoes sendReleaseNeeds releaseFor sendReleaseDoes awaits takeReleaseNeeds takeReleaseDoes sendReleaseAckNeeds sendReleaseAckDoes takeReleaseAckNeeds takeReleaseAckDoes listed numbered otherFits valueFits placeFits eventOk placeOk treeParent treeParents startOf resetOf endOf linkThere turnOk probedIn nextOf valueOf firstOf answerOf stepOf onwardOf
 edges = refl

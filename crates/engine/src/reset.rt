@@ -11,31 +11,13 @@ use trees::parent_of;
 fn blank_node() -> Node
     ensures { λ r. ⌜ r ≡ blankNode ⌝ }
 {
-    Node {
-        dirty: false,
-        value: 0,
-        phase: 0,
-        purpose: 0,
-        requester: 0,
-        probe: false,
-        cap: 0,
-        release: 0,
-    }
+    Node::ZERO
 }
 
 fn blank_link() -> Link
     ensures { λ r. ⌜ r ≡ blankLink ⌝ }
 {
-    Link {
-        a: 0,
-        b: 0,
-        c: 0,
-        kept: 0,
-        up: 0,
-        d: 0,
-        down: 0,
-        e: 0,
-    }
+    Link::ZERO
 }
 
 pub fn blank_state() -> State

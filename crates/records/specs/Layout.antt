@@ -1,40 +1,38 @@
--- The places of the fields, computed from the node limit (docs/FORMAT.md). src/layout.rt has the numbers.
+-- Printed by tools/print from crates/rules/src/lib.rt. The places of the fields in bytes (docs/FORMAT.md).
 use Prim.Native.Nat.{ℕ, _+_, _*_}
 use Rattle.rules.specs.Codes.{nodes, cells}
 
+-- bytes of a node and of a link
 abbrev pub nodeSize : ℕ
 nodeSize = 15
 
 abbrev pub linkSize : ℕ
 linkSize = 22
 
-abbrev pub parentsAt : ℕ
-parentsAt = 1
+-- where the fields of a configuration start, and its size
+abbrev pub countPlace : ℕ
+countPlace = 0
 
-abbrev pub rightsAt : ℕ
-rightsAt = parentsAt + nodes
+abbrev pub parentsPlace : ℕ
+parentsPlace = countPlace + 1
 
-abbrev pub entriesAt : ℕ
-entriesAt = rightsAt + nodes
+abbrev pub rightsPlace : ℕ
+rightsPlace = parentsPlace + nodes
 
-abbrev pub toProbeAt : ℕ
-toProbeAt = entriesAt + cells
+abbrev pub entriesPlace : ℕ
+entriesPlace = rightsPlace + nodes
 
-abbrev pub pendingAt : ℕ
-pendingAt = toProbeAt + cells
+abbrev pub toProbePlace : ℕ
+toProbePlace = entriesPlace + cells
 
-abbrev pub nodesAt : ℕ
-nodesAt = pendingAt + cells
+abbrev pub pendingPlace : ℕ
+pendingPlace = toProbePlace + cells
 
-abbrev pub linksAt : ℕ
-linksAt = nodesAt + nodes * nodeSize
+abbrev pub nodesPlace : ℕ
+nodesPlace = pendingPlace + cells
+
+abbrev pub linksPlace : ℕ
+linksPlace = nodesPlace + nodes * nodeSize
 
 abbrev pub stateSize : ℕ
-stateSize = linksAt + nodes * linkSize
-
--- an answer is number, value and configuration
-abbrev pub answerHead : ℕ
-answerHead = 9
-
-abbrev pub answerSize : ℕ
-answerSize = answerHead + stateSize
+stateSize = linksPlace + nodes * linkSize

@@ -1,5 +1,4 @@
 -- docs/FORMAT.md as definitions.
 pub mod Layout
-pub mod Bytes
-pub mod Reading
-pub mod Writing
+pub mod StateBytes
+pub mod AnswerBytes

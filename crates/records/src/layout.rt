@@ -1,35 +1,30 @@
-// The places and sizes of the fields in docs/FORMAT.md.
+// Printed by tools/print from crates/rules/src/lib.rt: the places of the fields in bytes (docs/FORMAT.md).
 use rules::State;
 
 pub struct Layout(pub u8);
 
 impl Layout {
-    // Bytes of a node, of a link, of an event, and of what a reset is asked with.
+    // Bytes of a node and of a link.
     pub const NODE: usize = 15;
 
     pub const LINK: usize = 22;
 
-    pub const EVENT: usize = 11;
-
-    pub const RESET: usize = 25;
-
     // Where the fields of a configuration start, and its size.
-    pub const PARENTS: usize = 1;
+    pub const COUNT: usize = 0;
 
-    pub const RIGHTS: usize = 17;
+    pub const PARENTS: usize = Layout::COUNT + 1;
 
-    pub const ENTRIES: usize = 33;
+    pub const RIGHTS: usize = Layout::PARENTS + State::NODES;
 
-    pub const TO_PROBE: usize = 289;
+    pub const ENTRIES: usize = Layout::RIGHTS + State::NODES;
 
-    pub const PENDING: usize = 545;
+    pub const TO_PROBE: usize = Layout::ENTRIES + State::CELLS;
 
-    pub const NODES: usize = 801;
+    pub const PENDING: usize = Layout::TO_PROBE + State::CELLS;
 
-    pub const LINKS: usize = 1041;
+    pub const NODES: usize = Layout::PENDING + State::CELLS;
 
-    pub const STATE: usize = 1393;
+    pub const LINKS: usize = Layout::NODES + State::NODES * Layout::NODE;
 
-    // An answer: number, value, configuration.
-    pub const ANSWER: usize = 1402;
+    pub const STATE: usize = Layout::LINKS + State::NODES * Layout::LINK;
 }

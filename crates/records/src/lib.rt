@@ -1,104 +1,71 @@
-// Configurations, events and answers as bytes: docs/FORMAT.md. Every public function is total and promises its definition.
+// Configurations and answers as bytes: docs/FORMAT.md. Every public function is total and promises its definition.
 ghost use mathlib.Core.Path.{_≡_};
-ghost use Rattle.records.specs.Reading.{stateOf, flagsOk, eventOf, rowAt};
-ghost use Rattle.records.specs.Bytes.{wordAt};
-ghost use Rattle.records.specs.Writing.{answerBytes};
+ghost use Rattle.octets.specs.BigEndian.{word};
+ghost use Rattle.octets.specs.Written.{Wrote};
+ghost use Rattle.records.specs.AnswerBytes.{askedParents, askedFirst, answerBytes};
+ghost use Rattle.records.specs.StateBytes.{stateOf, flagsOk, byteRowAt, stateBytes};
 use layout::Layout;
-use read::cells_at;
-use read::flags_at;
-use read::links_of;
-use read::nodes_of;
-use read::nodes_ok;
-use read::row_at;
-use read::sets_ok;
-use read::word_at;
-use rules::Event;
+use octets::put::put_byte;
+use octets::put::put_word;
+use octets::read::word_at;
+use read::byte_row_at;
 use rules::State;
-use write::cells_put;
-use write::flags_put;
-use write::links_put;
-use write::nodes_put;
-use write::row_put;
-use write::word_put;
 
 pub mod layout;
 mod read;
 mod write;
 
+// What a reset is asked with: count, parents, first value.
+pub const PARENTS: usize = 1;
+
+pub const FIRST: usize = PARENTS + State::NODES;
+
+pub const RESET: usize = FIRST + 8;
+
+// An answer: number, value, configuration.
+pub const ANSWER: usize = 1 + 8 + Layout::STATE;
+
 // The configuration that the bytes write.
-pub fn state_of(bs: &[u8; Layout::STATE]) -> State
+pub fn state_of(bs: &[u8]) -> State
     ensures { λ r. ⌜ r ≡ stateOf (now (bs .entry)) ⌝ }
 {
-    let parents = row_at(bs, Layout::PARENTS);
-    let rights = row_at(bs, Layout::RIGHTS);
-    let entries = cells_at(bs, Layout::ENTRIES);
-    let to_probe = flags_at(bs, Layout::TO_PROBE);
-    let pending = flags_at(bs, Layout::PENDING);
-    let nodes = nodes_of(bs);
-    let links = links_of(bs);
-    State {
-        count: bs[0],
-        parents,
-        rights,
-        entries,
-        to_probe,
-        pending,
-        nodes,
-        links,
-    }
+    read::state_of(bs)
 }
 
 // Each flag of a configuration's bytes is 0 or 1.
-pub fn flags_ok(bs: &[u8; Layout::STATE]) -> bool
+pub fn flags_ok(bs: &[u8]) -> bool
     ensures { λ r. ⌜ r ≡ flagsOk (now (bs .entry)) ⌝ }
 {
-    let sets = sets_ok(bs);
-    let nodes = nodes_ok(bs);
-    sets & nodes
+    read::flags_ok(bs)
 }
 
-// The event that the bytes write.
-pub fn event_of(bs: &[u8; Layout::EVENT]) -> Event
-    ensures { λ r. ⌜ r ≡ eventOf (now (bs .entry)) ⌝ }
+// The bytes of a configuration, from `at` on; the answer is the place after them.
+pub fn put_state(out: &mut [u8], at: usize, s: State) -> usize
+    ensures { λ r. ⌜ Wrote (now (out .entry)) at (stateBytes s) (now (out .exit)) r ⌝ }
 {
-    let value = word_at(bs, 3);
-    Event {
-        kind: bs[0],
-        node: bs[1],
-        other: bs[2],
-        value,
-    }
+    write::put_state(out, at, s)
 }
 
 // The parents that a reset is asked with, after its node count, and its first value.
-pub fn parents_of(bs: &[u8; Layout::RESET]) -> [u8; State::NODES]
-    ensures { λ r. ⌜ r ≡ rowAt (now (bs .entry)) 1 ⌝ }
+pub fn parents_of(bs: &[u8]) -> [u8; State::NODES]
+    ensures { λ r. ⌜ r ≡ byteRowAt (now (bs .entry)) askedParents ⌝ }
 {
-    row_at(bs, 1)
+    byte_row_at(bs, PARENTS)
 }
 
-pub fn first_of(bs: &[u8; Layout::RESET]) -> u64
-    ensures { λ r. ⌜ r ≡ wordAt (now (bs .entry)) 17 ⌝ }
+pub fn first_of(bs: &[u8]) -> u64
+    ensures { λ r. ⌜ r ≡ word (now (bs .entry)) askedFirst ⌝ }
 {
-    word_at(bs, 17)
+    word_at(bs, FIRST)
 }
 
 // The bytes of an answer.
-pub fn answer_bytes(number: u8, value: u64, s: State) -> [u8; Layout::ANSWER]
+pub fn answer_bytes(number: u8, value: u64, s: State) -> [u8; ANSWER]
     ensures { λ r. ⌜ r ≡ answerBytes number value s ⌝ }
 {
-    let mut out = [0u8; Layout::ANSWER];
-    out[0] = number;
-    word_put(&mut out, 1, value);
-    out[9] = s.count;
-    row_put(&mut out, 10, &s.parents);
-    row_put(&mut out, 26, &s.rights);
-    cells_put(&mut out, 42, &s.entries);
-    flags_put(&mut out, 298, &s.to_probe);
-    flags_put(&mut out, 554, &s.pending);
-    let nodes = s.nodes;
-    nodes_put(&mut out, 810, nodes);
-    let links = s.links;
-    links_put(&mut out, 1050, links);
+    let mut out = [0u8; ANSWER];
+    let p = put_byte(&mut out, 0, number);
+    let q = put_word(&mut out, p, value);
+    put_state(&mut out, q, s);
     out
 }

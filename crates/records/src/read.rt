@@ -1,153 +1,158 @@
-// What bytes say, field by field.
+// Printed by tools/print from crates/rules/src/lib.rt: what bytes say, field by field, and whether their flags are flags.
 ghost use mathlib.Core.Path.{_≡_};
-ghost use Prim.Native.Nat.{_+_, _≤_, _<_};
-ghost use lib.ListN.{length};
-ghost use Rattle.rules.specs.Codes.{nodes, cells};
-ghost use Rattle.records.specs.Layout.{nodeSize, linkSize};
-ghost use Rattle.records.specs.Bytes.{wordOf, wordAt, flagAt};
-ghost use Rattle.records.specs.Reading.{rowAt, cellsAt, flagsAt, nodeAt, linkAt, nodesOf, linksOf, setsOk, nodesOk};
+ghost use Prim.Native.Nat.{_*_, _≤_};
+ghost use Rattle.records.specs.Layout.{stateSize};
+ghost use Rattle.records.specs.StateBytes.{nodeAt, linkAt, byteRowAt, byteCellsAt, flagCellsAt, nodeRowAt, linkRowAt, stateOf, nodeFlagsOk, flagCellsOk, nodeRowOk, flagsOk};
 use crate::layout::Layout;
+use octets::read::byte_at;
+use octets::read::flag_at;
+use octets::read::flag_ok;
+use octets::read::word_at;
 use rules::Link;
 use rules::Node;
 use rules::State;
 
-fn word(a: u8, b: u8, c: u8, d: u8, e: u8, f: u8, g: u8, h: u8) -> u64
-    ensures { λ r. ⌜ r ≡ wordOf a b c d e f g h ⌝ }
+fn node_at(s: &[u8], i: usize) -> Node
+    requires { ⌜ i ≤ 2 * stateSize ⌝ }
+    ensures { λ r. ⌜ r ≡ nodeAt (now (s .entry)) i ⌝ }
 {
-    let high = (a as u64) * 16777216 + (b as u64) * 65536 + (c as u64) * 256 + (d as u64);
-    let low = (e as u64) * 16777216 + (f as u64) * 65536 + (g as u64) * 256 + (h as u64);
-    high * 4294967296 + low
+    let dirty = flag_at(s, i);
+    let value = word_at(s, i + 1);
+    let phase = byte_at(s, i + 9);
+    let purpose = byte_at(s, i + 10);
+    let requester = byte_at(s, i + 11);
+    let probe = flag_at(s, i + 12);
+    let cap = byte_at(s, i + 13);
+    let release = byte_at(s, i + 14);
+    Node {
+        dirty,
+        value,
+        phase,
+        purpose,
+        requester,
+        probe,
+        cap,
+        release,
+    }
 }
 
-pub fn word_at(bs: &[u8], i: usize) -> u64
-    requires { ⌜ i + 8 ≤ length (now bs) ⌝ }
-    ensures { λ r. ⌜ r ≡ wordAt (now (bs .entry)) i ⌝ }
+fn link_at(s: &[u8], i: usize) -> Link
+    requires { ⌜ i ≤ 2 * stateSize ⌝ }
+    ensures { λ r. ⌜ r ≡ linkAt (now (s .entry)) i ⌝ }
 {
-    word(
-        bs[i],
-        bs[i + 1],
-        bs[i + 2],
-        bs[i + 3],
-        bs[i + 4],
-        bs[i + 5],
-        bs[i + 6],
-        bs[i + 7],
-    )
+    let a = byte_at(s, i);
+    let b = byte_at(s, i + 1);
+    let c = byte_at(s, i + 2);
+    let kept = byte_at(s, i + 3);
+    let up = word_at(s, i + 4);
+    let d = byte_at(s, i + 12);
+    let down = word_at(s, i + 13);
+    let e = byte_at(s, i + 21);
+    Link {
+        a,
+        b,
+        c,
+        kept,
+        up,
+        d,
+        down,
+        e,
+    }
 }
 
-pub fn row_at(bs: &[u8], i: usize) -> [u8; State::NODES]
-    requires { ⌜ i + nodes ≤ length (now bs) ⌝ }
-    ensures { λ r. ⌜ r ≡ rowAt (now (bs .entry)) i ⌝ }
+pub fn byte_row_at(s: &[u8], i: usize) -> [u8; State::NODES]
+    requires { ⌜ i ≤ stateSize ⌝ }
+    ensures { λ r. ⌜ r ≡ byteRowAt (now (s .entry)) i ⌝ }
 {
     let mut row = [0u8; State::NODES];
     for k in 0..State::NODES {
-        row[k] = bs[i + k];
+        row[k] = byte_at(s, i + k);
     }
     row
 }
 
-pub fn cells_at(bs: &[u8], i: usize) -> [u8; State::CELLS]
-    requires { ⌜ i + cells ≤ length (now bs) ⌝ }
-    ensures { λ r. ⌜ r ≡ cellsAt (now (bs .entry)) i ⌝ }
+pub fn byte_cells_at(s: &[u8], i: usize) -> [u8; State::CELLS]
+    requires { ⌜ i ≤ stateSize ⌝ }
+    ensures { λ r. ⌜ r ≡ byteCellsAt (now (s .entry)) i ⌝ }
 {
     let mut row = [0u8; State::CELLS];
     for k in 0..State::CELLS {
-        row[k] = bs[i + k];
+        row[k] = byte_at(s, i + k);
     }
     row
 }
 
-pub fn flags_at(bs: &[u8], i: usize) -> [bool; State::CELLS]
-    requires { ⌜ i + cells ≤ length (now bs) ⌝ }
-    ensures { λ r. ⌜ r ≡ flagsAt (now (bs .entry)) i ⌝ }
+pub fn flag_cells_at(s: &[u8], i: usize) -> [bool; State::CELLS]
+    requires { ⌜ i ≤ stateSize ⌝ }
+    ensures { λ r. ⌜ r ≡ flagCellsAt (now (s .entry)) i ⌝ }
 {
     let mut row = [false; State::CELLS];
     for k in 0..State::CELLS {
-        row[k] = bs[i + k] != 0;
+        row[k] = flag_at(s, i + k);
     }
     row
 }
 
-fn node_at(bs: &[u8], i: usize) -> Node
-    requires { ⌜ i + nodeSize ≤ length (now bs) ⌝ }
-    ensures { λ r. ⌜ r ≡ nodeAt (now (bs .entry)) i ⌝ }
+pub fn node_row_at(s: &[u8], i: usize) -> [Node; State::NODES]
+    requires { ⌜ i ≤ stateSize ⌝ }
+    ensures { λ r. ⌜ r ≡ nodeRowAt (now (s .entry)) i ⌝ }
 {
-    let value = word_at(bs, i + 1);
-    Node {
-        dirty: bs[i] != 0,
-        value,
-        phase: bs[i + 9],
-        purpose: bs[i + 10],
-        requester: bs[i + 11],
-        probe: bs[i + 12] != 0,
-        cap: bs[i + 13],
-        release: bs[i + 14],
-    }
-}
-
-fn link_at(bs: &[u8], i: usize) -> Link
-    requires { ⌜ i + linkSize ≤ length (now bs) ⌝ }
-    ensures { λ r. ⌜ r ≡ linkAt (now (bs .entry)) i ⌝ }
-{
-    let up = word_at(bs, i + 4);
-    let down = word_at(bs, i + 13);
-    Link {
-        a: bs[i],
-        b: bs[i + 1],
-        c: bs[i + 2],
-        kept: bs[i + 3],
-        up,
-        d: bs[i + 12],
-        down,
-        e: bs[i + 21],
-    }
-}
-
-pub fn nodes_of(bs: &[u8; Layout::STATE]) -> [Node; State::NODES]
-    ensures { λ r. ⌜ r ≡ nodesOf (now (bs .entry)) ⌝ }
-{
-    let blank = Node {
-        dirty: false,
-        value: 0,
-        phase: 0,
-        purpose: 0,
-        requester: 0,
-        probe: false,
-        cap: 0,
-        release: 0,
-    };
-    let mut fields = [blank; State::NODES];
+    let mut row = [Node::ZERO; State::NODES];
     for k in 0..State::NODES {
-        fields[k] = node_at(bs, Layout::NODES + k * Layout::NODE);
+        row[k] = node_at(s, i + k * Layout::NODE);
     }
-    fields
+    row
 }
 
-pub fn links_of(bs: &[u8; Layout::STATE]) -> [Link; State::NODES]
-    ensures { λ r. ⌜ r ≡ linksOf (now (bs .entry)) ⌝ }
+pub fn link_row_at(s: &[u8], i: usize) -> [Link; State::NODES]
+    requires { ⌜ i ≤ stateSize ⌝ }
+    ensures { λ r. ⌜ r ≡ linkRowAt (now (s .entry)) i ⌝ }
 {
-    let blank = Link {
-        a: 0,
-        b: 0,
-        c: 0,
-        kept: 0,
-        up: 0,
-        d: 0,
-        down: 0,
-        e: 0,
-    };
-    let mut links = [blank; State::NODES];
+    let mut row = [Link::ZERO; State::NODES];
     for k in 0..State::NODES {
-        links[k] = link_at(bs, Layout::LINKS + k * Layout::LINK);
+        row[k] = link_at(s, i + k * Layout::LINK);
     }
-    links
+    row
 }
 
-pub fn sets_ok(bs: &[u8; Layout::STATE]) -> bool
-    ensures { λ r. ⌜ r ≡ setsOk (now (bs .entry)) ⌝ }
+pub fn state_of(s: &[u8]) -> State
+    ensures { λ r. ⌜ r ≡ stateOf (now (s .entry)) ⌝ }
 {
-    for k in 0..2 * State::CELLS {
-        let fits = bs[Layout::TO_PROBE + k] <= 1;
+    let count = byte_at(s, Layout::COUNT);
+    let parents = byte_row_at(s, Layout::PARENTS);
+    let rights = byte_row_at(s, Layout::RIGHTS);
+    let entries = byte_cells_at(s, Layout::ENTRIES);
+    let to_probe = flag_cells_at(s, Layout::TO_PROBE);
+    let pending = flag_cells_at(s, Layout::PENDING);
+    let nodes = node_row_at(s, Layout::NODES);
+    let links = link_row_at(s, Layout::LINKS);
+    State {
+        count,
+        parents,
+        rights,
+        entries,
+        to_probe,
+        pending,
+        nodes,
+        links,
+    }
+}
+
+fn node_flags_ok(s: &[u8], i: usize) -> bool
+    requires { ⌜ i ≤ 2 * stateSize ⌝ }
+    ensures { λ r. ⌜ r ≡ nodeFlagsOk (now (s .entry)) i ⌝ }
+{
+    let dirty = flag_ok(s, i);
+    let probe = flag_ok(s, i + 12);
+    dirty & probe
+}
+
+fn flag_cells_ok(s: &[u8], i: usize) -> bool
+    requires { ⌜ i ≤ stateSize ⌝ }
+    ensures { λ r. ⌜ r ≡ flagCellsOk (now (s .entry)) i ⌝ }
+{
+    for k in 0..State::CELLS {
+        let fits = flag_ok(s, i + k);
         if !fits {
             return false;
         }
@@ -155,15 +160,24 @@ pub fn sets_ok(bs: &[u8; Layout::STATE]) -> bool
     true
 }
 
-pub fn nodes_ok(bs: &[u8; Layout::STATE]) -> bool
-    ensures { λ r. ⌜ r ≡ nodesOk (now (bs .entry)) ⌝ }
+fn node_row_ok(s: &[u8], i: usize) -> bool
+    requires { ⌜ i ≤ stateSize ⌝ }
+    ensures { λ r. ⌜ r ≡ nodeRowOk (now (s .entry)) i ⌝ }
 {
     for k in 0..State::NODES {
-        let i = Layout::NODES + k * Layout::NODE;
-        let fits = (bs[i] <= 1) & (bs[i + 12] <= 1);
+        let fits = node_flags_ok(s, i + k * Layout::NODE);
         if !fits {
             return false;
         }
     }
     true
+}
+
+pub fn flags_ok(s: &[u8]) -> bool
+    ensures { λ r. ⌜ r ≡ flagsOk (now (s .entry)) ⌝ }
+{
+    let to_probe = flag_cells_ok(s, Layout::TO_PROBE);
+    let pending = flag_cells_ok(s, Layout::PENDING);
+    let nodes = node_row_ok(s, Layout::NODES);
+    to_probe & pending & nodes
 }

@@ -1,157 +1,128 @@
-// An answer's bytes, field by field, into a lent array.
-ghost use mathlib.Core.Path.{_≡_};
-ghost use Prim.Native.Nat.{_+_, _*_, _≤_, _<_};
-ghost use Rattle.rules.specs.Codes.{nodes, cells};
-ghost use Rattle.records.specs.Layout.{nodeSize, linkSize, answerSize};
-ghost use Rattle.records.specs.Bytes.{byteOf, flagByte};
-ghost use Rattle.records.specs.Writing.{rowPut, cellsPut, flagsPut, wordPut, nodeByte, linkByte, nodesPut, linksPut};
-use crate::layout::Layout;
+// Printed by tools/print from crates/rules/src/lib.rt: a configuration's bytes, field by field, into a lent buffer.
+ghost use mathlib.Core.List.{_++_, flatMap};
+ghost use Rattle.octets.specs.BigEndian.{wordBytes};
+ghost use Rattle.octets.specs.Fields.{one, flag, flags};
+ghost use Rattle.octets.specs.Written.{Wrote};
+ghost use Rattle.records.specs.StateBytes.{nodeBytes, linkBytes, stateBytes};
+use octets::limits::least;
+use octets::put::put_byte;
+use octets::put::put_bytes;
+use octets::put::put_flag;
+use octets::put::put_flags;
+use octets::put::put_word;
 use rules::Link;
 use rules::Node;
 use rules::State;
 
-fn flag_byte(b: bool) -> u8
-    ensures { λ r. ⌜ r ≡ flagByte b ⌝ }
+fn put_node_1(out: &mut [u8], at: usize, m: Node) -> usize
+    ensures { λ r. ⌜ Wrote (now (out .entry)) at (flag (m .dirty) ++ wordBytes (m .value) ++ one (m .phase) ++ one (m .purpose)) (now (out .exit)) r ⌝ }
 {
-    if b {
-        return 1;
-    }
-    0
+    let p = put_flag(out, at, m.dirty);
+    let q = put_word(out, p, m.value);
+    let r = put_byte(out, q, m.phase);
+    put_byte(out, r, m.purpose)
 }
 
-fn byte_of(v: u64, i: usize) -> u8
-    ensures { λ r. ⌜ r ≡ byteOf v i ⌝ }
+fn put_node_2(out: &mut [u8], at: usize, m: Node) -> usize
+    ensures { λ r. ⌜ Wrote (now (out .entry)) at (one (m .requester) ++ flag (m .probe) ++ one (m .cap) ++ one (m .release)) (now (out .exit)) r ⌝ }
 {
-    if i == 0 {
-        return (v / 72057594037927936 % 256) as u8;
-    }
-    if i == 1 {
-        return (v / 281474976710656 % 256) as u8;
-    }
-    if i == 2 {
-        return (v / 1099511627776 % 256) as u8;
-    }
-    if i == 3 {
-        return (v / 4294967296 % 256) as u8;
-    }
-    if i == 4 {
-        return (v / 16777216 % 256) as u8;
-    }
-    if i == 5 {
-        return (v / 65536 % 256) as u8;
-    }
-    if i == 6 {
-        return (v / 256 % 256) as u8;
-    }
-    (v % 256) as u8
+    let p = put_byte(out, at, m.requester);
+    let q = put_flag(out, p, m.probe);
+    let r = put_byte(out, q, m.cap);
+    put_byte(out, r, m.release)
 }
 
-pub fn word_put(out: &mut [u8; Layout::ANSWER], at: usize, v: u64)
-    requires { ⌜ at + 8 ≤ answerSize ⌝ }
-    ensures { λ _. ⌜ now (out .exit) ≡ wordPut (now (out .entry)) at v ⌝ }
+fn put_node(out: &mut [u8], at: usize, m: Node) -> usize
+    ensures { λ r. ⌜ Wrote (now (out .entry)) at (nodeBytes m) (now (out .exit)) r ⌝ }
 {
-    for k in 0..8 {
-        out[at + k] = byte_of(v, k);
-    }
+    let p = put_node_1(out, at, m);
+    put_node_2(out, p, m)
 }
 
-pub fn row_put(out: &mut [u8; Layout::ANSWER], at: usize, row: &[u8; State::NODES])
-    requires { ⌜ at + nodes ≤ answerSize ⌝ }
-    ensures { λ _. ⌜ now (out .exit) ≡ rowPut (now (out .entry)) at (now (row .entry)) ⌝ }
+fn put_link_1(out: &mut [u8], at: usize, m: Link) -> usize
+    ensures { λ r. ⌜ Wrote (now (out .entry)) at (one (m .a) ++ one (m .b) ++ one (m .c) ++ one (m .kept)) (now (out .exit)) r ⌝ }
 {
+    let p = put_byte(out, at, m.a);
+    let q = put_byte(out, p, m.b);
+    let r = put_byte(out, q, m.c);
+    put_byte(out, r, m.kept)
+}
+
+fn put_link_2(out: &mut [u8], at: usize, m: Link) -> usize
+    ensures { λ r. ⌜ Wrote (now (out .entry)) at (wordBytes (m .up) ++ one (m .d) ++ wordBytes (m .down) ++ one (m .e)) (now (out .exit)) r ⌝ }
+{
+    let p = put_word(out, at, m.up);
+    let q = put_byte(out, p, m.d);
+    let r = put_word(out, q, m.down);
+    put_byte(out, r, m.e)
+}
+
+fn put_link(out: &mut [u8], at: usize, m: Link) -> usize
+    ensures { λ r. ⌜ Wrote (now (out .entry)) at (linkBytes m) (now (out .exit)) r ⌝ }
+{
+    let p = put_link_1(out, at, m);
+    put_link_2(out, p, m)
+}
+
+fn put_node_row(out: &mut [u8], at: usize, row: [Node; State::NODES]) -> usize
+    ensures { λ r. ⌜ Wrote (now (out .entry)) at (flatMap nodeBytes row) (now (out .exit)) r ⌝ }
+{
+    let mut p = least(at, out.len());
     for k in 0..State::NODES {
-        out[at + k] = row[k];
+        let m = row[k];
+        p = put_node(out, p, m);
     }
+    p
 }
 
-pub fn cells_put(out: &mut [u8; Layout::ANSWER], at: usize, row: &[u8; State::CELLS])
-    requires { ⌜ at + cells ≤ answerSize ⌝ }
-    ensures { λ _. ⌜ now (out .exit) ≡ cellsPut (now (out .entry)) at (now (row .entry)) ⌝ }
+fn put_link_row(out: &mut [u8], at: usize, row: [Link; State::NODES]) -> usize
+    ensures { λ r. ⌜ Wrote (now (out .entry)) at (flatMap linkBytes row) (now (out .exit)) r ⌝ }
 {
-    for k in 0..State::CELLS {
-        out[at + k] = row[k];
+    let mut p = least(at, out.len());
+    for k in 0..State::NODES {
+        let m = row[k];
+        p = put_link(out, p, m);
     }
+    p
 }
 
-pub fn flags_put(out: &mut [u8; Layout::ANSWER], at: usize, row: &[bool; State::CELLS])
-    requires { ⌜ at + cells ≤ answerSize ⌝ }
-    ensures { λ _. ⌜ now (out .exit) ≡ flagsPut (now (out .entry)) at (now (row .entry)) ⌝ }
+fn put_state_1<'a>(
+    out: &mut [u8],
+    at: usize,
+    count: u8,
+    parents: &'a [u8; State::NODES],
+    rights: &'a [u8; State::NODES],
+    entries: &'a [u8; State::CELLS],
+) -> usize
+    ensures { λ r. ⌜ Wrote (now (out .entry)) at (one count ++ now (parents .entry) ++ now (rights .entry) ++ now (entries .entry)) (now (out .exit)) r ⌝ }
 {
-    for k in 0..State::CELLS {
-        out[at + k] = flag_byte(row[k]);
-    }
+    let p = put_byte(out, at, count);
+    let q = put_bytes(out, p, parents);
+    let r = put_bytes(out, q, rights);
+    put_bytes(out, r, entries)
 }
 
-fn node_byte(m: Node, i: usize) -> u8
-    ensures { λ r. ⌜ r ≡ nodeByte m i ⌝ }
+fn put_state_2<'a>(
+    out: &mut [u8],
+    at: usize,
+    to_probe: &'a [bool; State::CELLS],
+    pending: &'a [bool; State::CELLS],
+    nodes: [Node; State::NODES],
+    links: [Link; State::NODES],
+) -> usize
+    ensures { λ r. ⌜ Wrote (now (out .entry)) at (flags (now («to_probe» .entry)) ++ flags (now (pending .entry)) ++ flatMap nodeBytes (nodes) ++ flatMap linkBytes (links)) (now (out .exit)) r ⌝ }
 {
-    if i == 0 {
-        return flag_byte(m.dirty);
-    }
-    if i <= 8 {
-        return byte_of(m.value, i - 1);
-    }
-    if i == 9 {
-        return m.phase;
-    }
-    if i == 10 {
-        return m.purpose;
-    }
-    if i == 11 {
-        return m.requester;
-    }
-    if i == 12 {
-        return flag_byte(m.probe);
-    }
-    if i == 13 {
-        return m.cap;
-    }
-    m.release
+    let p = put_flags(out, at, to_probe);
+    let q = put_flags(out, p, pending);
+    let r = put_node_row(out, q, nodes);
+    put_link_row(out, r, links)
 }
 
-fn link_byte(l: Link, i: usize) -> u8
-    ensures { λ r. ⌜ r ≡ linkByte l i ⌝ }
+pub fn put_state(out: &mut [u8], at: usize, s: State) -> usize
+    ensures { λ r. ⌜ Wrote (now (out .entry)) at (stateBytes s) (now (out .exit)) r ⌝ }
 {
-    if i == 0 {
-        return l.a;
-    }
-    if i == 1 {
-        return l.b;
-    }
-    if i == 2 {
-        return l.c;
-    }
-    if i == 3 {
-        return l.kept;
-    }
-    if i <= 11 {
-        return byte_of(l.up, i - 4);
-    }
-    if i == 12 {
-        return l.d;
-    }
-    if i <= 20 {
-        return byte_of(l.down, i - 13);
-    }
-    l.e
-}
-
-pub fn nodes_put(out: &mut [u8; Layout::ANSWER], at: usize, fields: [Node; State::NODES])
-    requires { ⌜ at + nodes * nodeSize ≤ answerSize ⌝ }
-    ensures { λ _. ⌜ now (out .exit) ≡ nodesPut (now (out .entry)) at fields ⌝ }
-{
-    for i in 0..State::NODES * Layout::NODE {
-        let m = fields[i / Layout::NODE];
-        out[at + i] = node_byte(m, i % Layout::NODE);
-    }
-}
-
-pub fn links_put(out: &mut [u8; Layout::ANSWER], at: usize, links: [Link; State::NODES])
-    requires { ⌜ at + nodes * linkSize ≤ answerSize ⌝ }
-    ensures { λ _. ⌜ now (out .exit) ≡ linksPut (now (out .entry)) at links ⌝ }
-{
-    for i in 0..State::NODES * Layout::LINK {
-        let l = links[i / Layout::LINK];
-        out[at + i] = link_byte(l, i % Layout::LINK);
-    }
+    let nodes = s.nodes;
+    let links = s.links;
+    let p = put_state_1(out, at, s.count, &s.parents, &s.rights, &s.entries);
+    put_state_2(out, p, &s.to_probe, &s.pending, nodes, links)
 }

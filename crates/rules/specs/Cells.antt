@@ -3,16 +3,17 @@ use mathlib.Core.Bool.{Bool, false}
 use Prim.Native.Nat.{ℕ, _+_, _*_}
 use lib.ListN.{getD}
 use Rattle.rules.specs.Codes.{nodes}
+use Rattle.rules.specs.Zero.{zeroNode, zeroLink}
 use Rattle.rules.specs.declared.State.{State}
 use Rattle.rules.specs.declared.Node.{Node}
 use Rattle.rules.specs.declared.Link.{Link}
 
 -- "everything idle and empty"
 abbrev pub blankNode : Node
-blankNode = record { dirty = false; value = 0; phase = 0; purpose = 0; requester = 0; probe = false; cap = 0; release = 0 }
+blankNode = zeroNode
 
 abbrev pub blankLink : Link
-blankLink = record { a = 0; b = 0; c = 0; kept = 0; up = 0; d = 0; down = 0; e = 0 }
+blankLink = zeroLink
 
 -- "entries: one row for each node, one entry for each child"
 abbrev pub cell : ℕ → ℕ → ℕ

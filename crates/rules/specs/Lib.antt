@@ -4,6 +4,7 @@ pub mod Codes
 pub mod Cases
 pub mod Kinds
 pub mod With
+pub mod Zero
 pub mod Cells
 pub mod Tree
 pub mod Names

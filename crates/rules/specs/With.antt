@@ -1,4 +1,4 @@
--- Printed by tools/print-with from src/lib.rt. A record with one field replaced: antt has no record update.
+-- Printed by tools/print from crates/rules/src/lib.rt. A record with one field replaced: antt has no record update.
 use mathlib.Core.Bool.{Bool}
 use Prim.Native.Nat.{ℕ}
 use Rattle.rules.specs.declared.Scene.{Scene}

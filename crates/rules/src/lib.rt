@@ -2,41 +2,67 @@
 // may get"). No function: the rules stand in specs/.
 pub mod codes;
 pub mod kinds;
+mod zero;
+
+// A comment before a field is its row in docs/FORMAT.md; tools/print reads these structs.
 
 // A node's dirty flag and value, its main transaction, its probe transaction and its release transaction.
 pub struct Node {
+    // flag
     pub dirty: bool,
     pub value: u64,
+    // Idle 0, Clear 1, Ask 2, Wait 3, Confirm 4, Give 5, Await 6, LetGo 7, Leaving 8
     pub phase: u8,
+    // none 0, load 1, store 2, evict 3
     pub purpose: u8,
+    // 0, or the child
     pub requester: u8,
+    // flag: the probe transaction is open
     pub probe: bool,
+    // 0 where the probe is closed; B 1, N 2
     pub cap: u8,
+    // 0 idle, or the child to acknowledge
     pub release: u8,
 }
 
 // The five slots of the link between a node and its parent. `kept` and `up` belong to the message in C, `down` to that in D.
 pub struct Link {
+    // 0 empty, AcquireB 1, AcquireT 2, AcquireU 3
     pub a: u8,
+    // 0 empty, ProbeB 1, ProbeN 2
     pub b: u8,
+    // 0 empty, ProbeAck without data 1, ProbeAck with data 2, Release 3, ReleaseData 4
     pub c: u8,
+    // the rights kept, of a ProbeAck: N 0, B 1
     pub kept: u8,
+    // the value that the message in C carries
     pub up: u64,
+    // 0 empty, GrantT 1, GrantDataT 2, GrantDataB 3, ReleaseAck 4
     pub d: u8,
+    // the value that the message in D carries
     pub down: u64,
+    // 0 empty, GrantAck 1
     pub e: u8,
 }
 
 // The tree (the node count and each node's parent) and what it holds. A row of entries or of a set belongs to one node and
 // has one cell for each child.
 pub struct State {
+    // the node count
     pub count: u8,
+    // the parent of each node; 0 at the root
     pub parents: [u8; State::NODES],
+    // N 0, B 1, Tip 2
     pub rights: [u8; State::NODES],
+    // row of node 0 first; in a row one entry for each node: None 0, Branch 1, Trunk 2
     pub entries: [u8; State::CELLS],
+    // flags, rows as for entries
     pub to_probe: [bool; State::CELLS],
+    // flags, rows as for entries
     pub pending: [bool; State::CELLS],
+    // see below
     pub nodes: [Node; State::NODES],
+    // the link of a node to its parent; see below
     pub links: [Link; State::NODES],
 }
 

@@ -1,7 +1,4 @@
-pub mod Writing
-pub mod Decimal
-pub mod Reading
-pub mod Lines
-pub mod Running
+-- Laws of the trail: the first record, the loop over the events, and cases computed from the definition.
 pub mod Starting
+pub mod Running
 pub mod Cases

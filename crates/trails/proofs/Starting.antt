@@ -1,5 +1,5 @@
 -- The first record, reset, and the trail as a whole.
-use mathlib.Core.Path.{_≡_, _∙_, sym, ap, subst, subst⁻¹}
+use mathlib.Core.Path.{_≡_, _∙_, sym, ap, subst}
 use mathlib.Core.Bool.{Bool, true, false, not, _&&_}
 use mathlib.Core.List.{List, _++_}
 use mathlib.Core.Logic.{_⊎_, inl, inr}
@@ -13,118 +13,137 @@ use lib.Dec.{leb, eqb}
 use Rattle.words.proofs.Facts.{both, decided, choose-true, choose-false}
 use Rattle.words.proofs.Laws.{told-not, told-true}
 use Rattle.io.specs.Counts.{Counts}
+use Rattle.rules.specs.Codes.{nodes}
 use Rattle.rules.specs.Step.{resetOf}
 use Rattle.model.specs.Answered.{answered}
 use Rattle.model.specs.declared.Answer.{Answer}
-use Rattle.trails.specs.Text.{Wrote, room, badLine}
-use Rattle.trails.specs.Input.{window, reach, byte, number, firstOk, firstLength, firstValue, countOf, parentsOf, versionOk, First}
-use Rattle.trails.specs.Trail.{eventsFrom, startedFrom, resetBy, trailOf}
+use Rattle.octets.specs.Prefixed.{window, reach}
+use Rattle.octets.specs.Versions.{longestFirst, known}
+use Rattle.octets.specs.Written.{Wrote}
+use Rattle.octets.proofs.BytesWritten.{wrote-same}
+use Rattle.octets.proofs.VersionRows.{longest-fits}
+use Rattle.lines.specs.Lines.{badLine}
+use Rattle.lines.proofs.Composing.{bad-near}
+use Rattle.trails.specs.Trail.{room, firstOk, firstLength, firstValue, countOf, parentsOf, First, eventsFrom, startedFrom, resetBy, versionOf, trailUnder, trailOf}
 
 -- a good first record, as the test and as its clauses
-pub first-good : (s : List ℕ) → firstOk s ≡ true → First s
+pub first-good : (v : ℕ) (s : List ℕ) → firstOk v s ≡ true → First v s
 unfolding firstOk
-first-good s h =
+first-good v s h =
     let n = firstLength s in
-    let f = both (leb 9 n && leb n 23) (leb (3 + n) (reach s)) h in
-    let g = both (leb 9 n) (leb n 23) (f .0) in
-    record { low = leb-true 9 n (g .0); high = leb-true n 23 (g .1); whole = leb-true (3 + n) (reach s) (f .1) }
+    let m = longestFirst v in
+    let f = both (leb 9 n && leb n m) (leb (3 + n) (reach s)) h in
+    let g = both (leb 9 n) (leb n m) (f .0) in
+    record { low = leb-true 9 n (g .0); high = leb-true n m (g .1); whole = leb-true (3 + n) (reach s) (f .1) }
 
-good-first : (s : List ℕ) → First s → firstOk s ≡ true
+good-first : (v : ℕ) (s : List ℕ) → First v s → firstOk v s ≡ true
 unfolding firstOk
-good-first s f =
+good-first v s f =
     let n = firstLength s in
-    rw (le-leb 9 n (f .low), le-leb n 23 (f .high)) (le-leb (3 + n) (reach s) (f .whole))
+    rw (le-leb 9 n (f .low), le-leb n (longestFirst v) (f .high)) (le-leb (3 + n) (reach s) (f .whole))
 
-not-first : (s : List ℕ) → (First s → ⊥) → false ≡ firstOk s
-not-first s h = go (decided (firstOk s))
+not-first : (v : ℕ) (s : List ℕ) → (First v s → ⊥) → false ≡ firstOk v s
+not-first v s h = go (decided (firstOk v s))
   where
-    go : (firstOk s ≡ true) ⊎ (firstOk s ≡ false) → false ≡ firstOk s
-    go (inl e) = absurd (h (first-good s e))
+    go : (firstOk v s ≡ true) ⊎ (firstOk v s ≡ false) → false ≡ firstOk v s
+    go (inl e) = absurd (h (first-good v s e))
     go (inr e) = sym e
 
--- the tests of `first_ok`, in its order
-pub cut-first : (s : List ℕ) {l : ℕ} → l ≡ reach s → l < 3 → false ≡ firstOk s
-cut-first s e h = not-first s (λ f. omega (arith, f .whole))
+-- the tests of `first_ok`, in its order: l is how far the record may reach, n its length, m the longest
+pub cut-first : (v : ℕ) (s : List ℕ) {l : ℕ} → l ≡ reach s → l < 3 → false ≡ firstOk v s
+cut-first v s e h = not-first v s (λ f. omega (arith, f .whole))
 
-pub low-first : (s : List ℕ) {v : ℕ} → v ≡ number s 1 2 → v < 9 → false ≡ firstOk s
-low-first s e h = not-first s (λ f. omega (arith, f .low))
+pub low-first : (v : ℕ) (s : List ℕ) {n : ℕ} → n ≡ firstLength s → n < 9 → false ≡ firstOk v s
+low-first v s e h = not-first v s (λ f. omega (arith, f .low))
 
-pub high-first : (s : List ℕ) {v : ℕ} → v ≡ number s 1 2 → 23 < v → false ≡ firstOk s
-high-first s e h = not-first s (λ f. omega (arith, f .high))
+pub high-first : (v : ℕ) (s : List ℕ) {n m : ℕ} → n ≡ firstLength s → m ≡ longestFirst v → m < n → false ≡ firstOk v s
+high-first v s e g h = not-first v s (λ f. omega (arith, f .high))
 
-pub fit-first : (s : List ℕ) {l v : ℕ} → l ≡ reach s → v ≡ number s 1 2 → 9 ≤ v → v ≤ 23 → leb (v + 3) l ≡ firstOk s
-fit-first s {l} {v} e f low high = go (decLt l (v + 3))
+pub fit-first : (v : ℕ) (s : List ℕ) {l n m : ℕ} → l ≡ reach s → 3 ≤ l → n ≡ firstLength s → 9 ≤ n → m ≡ longestFirst v → n ≤ m → leb n (l - 3) ≡ firstOk v s
+fit-first v s {l} {n} {m} e three f low g high = go (decLt (l - 3) n)
   where
-    go : Dec (l < v + 3) → leb (v + 3) l ≡ firstOk s
-    go (yes h) = lt-leb (v + 3) l h ∙ not-first s (λ g. omega (arith, g .whole))
+    go : Dec (l - 3 < n) → leb n (l - 3) ≡ firstOk v s
+    go (yes h) = lt-leb n (l - 3) h ∙ not-first v s (λ w. omega (arith, w .whole))
     go (no h) =
-        le-leb (v + 3) l (omega arith)
-        ∙ sym (good-first s (record { low = omega arith; high = omega arith; whole = omega arith }))
+        le-leb n (l - 3) (omega arith)
+        ∙ sym (good-first v s (record { low = omega arith; high = omega arith; whole = omega arith }))
 
 pub ruleset firsts = (cut-first, low-first, high-first, fit-first, arith)
 
--- the three ways of a trail
-module _ {o o′ : List ℕ} {r : ℕ} (s : List ℕ) where
-  pub wrong-version : {v : ℕ} → v ≡ byte s 0 → (v ≡ 1 → ⊥) → Wrote o 0 (badLine 0) o′ r → Wrote o 0 (trailOf s) o′ r
-  unfolding trailOf
-  wrong-version {v} e n w =
-      let t : versionOk s ≡ false = rw (← e) (ne-eqb v 1 n) in
-      subst⁻¹ (λ (x : List ℕ). Wrote o 0 x o′ r) (choose-true _ _ (ap not t)) w
+-- a good first record's node count is within the limit
+pub few-nodes : (v : ℕ) (s : List ℕ) → First v s → firstLength s ≤ nodes + 7
+few-nodes v s f = omega (arith, f .high, longest-fits v)
 
-  pub no-first : {v : ℕ} {b : Bool} → v ≡ byte s 0 → v ≡ 1 → b ≡ firstOk s → not b ≡ true → Wrote o 0 (badLine 1) o′ r → Wrote o 0 (trailOf s) o′ r
-  unfolding trailOf
-  no-first {v} e f g h w =
-      let t : versionOk s ≡ true = rw (← e) (eq-eqb v 1 f) in
-      subst⁻¹ (λ (x : List ℕ). Wrote o 0 x o′ r) (choose-false _ _ (ap not t) ∙ choose-true _ _ (told-not g h)) w
+pub first-told : (v : ℕ) (s : List ℕ) {b : Bool} → b ≡ firstOk v s → not b ≡ false → First v s
+first-told v s e h = first-good v s (told-true e h)
 
-  pub with-first : {v : ℕ} {b : Bool} → v ≡ byte s 0 → v ≡ 1 → b ≡ firstOk s → not b ≡ false → Wrote o 0 (startedFrom s (resetBy s)) o′ r → Wrote o 0 (trailOf s) o′ r
-  unfolding trailOf
-  with-first {v} e f g h w =
-      let t : versionOk s ≡ true = rw (← e) (eq-eqb v 1 f) in
-      subst⁻¹ (λ (x : List ℕ). Wrote o 0 x o′ r) (choose-false _ _ (ap not t) ∙ choose-false _ _ (told-not g h)) w
+-- `bad 0` and `bad 1` alone in the buffer
+pub bad-alone : {o o′ : List ℕ} {r : ℕ} (p : ℕ) → Wrote o 0 (badLine p) o′ r → leb p 1 ≡ true → r < room
+bad-alone p w h = let l : p ≤ 1 = leb-true p 1 h in omega (arith, bad-near p w (omega arith))
+
+-- the three ways of a trail: m is the longest first record that the version allows
+module _ {o o′ : List ℕ} {r m : ℕ} (v : ℕ) (s : List ℕ) (e : m ≡ longestFirst v) where
+  pub no-version : m < 1 → Wrote o 0 (badLine 0) o′ r → Wrote o 0 (trailUnder v s) o′ r
+  unfolding trailUnder
+  no-version h w =
+      let t : known v ≡ false = rw (← e) (lt-leb 1 m h) in
+      wrote-same (sym (choose-true _ _ (ap not t))) w
+
+  pub no-first : {b : Bool} → 1 ≤ m → b ≡ firstOk v s → not b ≡ true → Wrote o 0 (badLine 1) o′ r → Wrote o 0 (trailUnder v s) o′ r
+  unfolding trailUnder
+  no-first h g n w =
+      let t : known v ≡ true = rw (← e) (le-leb 1 m h) in
+      wrote-same (sym (choose-false _ _ (ap not t) ∙ choose-true _ _ (told-not g n))) w
+
+  pub with-first : {b : Bool} → 1 ≤ m → b ≡ firstOk v s → not b ≡ false → Wrote o 0 (startedFrom v s (resetBy s)) o′ r → Wrote o 0 (trailUnder v s) o′ r
+  unfolding trailUnder
+  with-first h g n w =
+      let t : known v ≡ true = rw (← e) (le-leb 1 m h) in
+      wrote-same (sym (choose-false _ _ (ap not t) ∙ choose-false _ _ (told-not g n))) w
+
+pub under : {o o′ : List ℕ} {r v : ℕ} (s : List ℕ) → v ≡ versionOf s → Wrote o 0 (trailUnder v s) o′ r → Wrote o 0 (trailOf s) o′ r
+under s e w = rw e at w
+
+pub ruleset ways = (no-version, no-first, with-first)
 
 -- what reset answers, by what the code handed it
 pub reset-by : (s : List ℕ) {n v : ℕ} {ps : List ℕ} {a : Answer} → n ≡ countOf s → ps ≡ parentsOf s n → v ≡ firstValue s → a ≡ answered (resetOf n ps v) → a ≡ answered (resetBy s)
 unfolding resetBy
 reset-by s e f g h = h ∙ rw (f, e, g)
 
-module _ {o o′ : List ℕ} {r : ℕ} (s : List ℕ) {a : Answer} (e : a ≡ answered (resetBy s)) where
-  pub bad-tree : (a .number ≡ 0 → ⊥) → Wrote o 0 (badLine 1) o′ r → Wrote o 0 (startedFrom s (resetBy s)) o′ r
+module _ {o o′ : List ℕ} {r : ℕ} (v : ℕ) (s : List ℕ) {a : Answer} (e : a ≡ answered (resetBy s)) where
+  pub bad-tree : (a .number ≡ 0 → ⊥) → Wrote o 0 (badLine 1) o′ r → Wrote o 0 (startedFrom v s (resetBy s)) o′ r
   unfolding startedFrom
   bad-tree n w =
       let t : eqb (resetBy s .number) 0 ≡ false = subst (λ (x : Answer). eqb (x .number) 0 ≡ false) e (ne-eqb (a .number) 0 n) in
-      subst⁻¹ (λ (x : List ℕ). Wrote o 0 x o′ r) (choose-false _ _ t) w
+      wrote-same (sym (choose-false _ _ t)) w
 
-  pub good-tree : {first : ℕ} → a .number ≡ 0 → first ≡ 3 + firstLength s → Wrote o 0 (eventsFrom window s first 1 (a .config .state)) o′ r → Wrote o 0 (startedFrom s (resetBy s)) o′ r
+  pub good-tree : {n : ℕ} → a .number ≡ 0 → n ≡ firstLength s → Wrote o 0 (eventsFrom v window s (3 + n) 1 (a .config .state)) o′ r → Wrote o 0 (startedFrom v s (resetBy s)) o′ r
   unfolding startedFrom
-  good-tree {first} n f w =
+  good-tree n f w =
       let t : eqb (resetBy s .number) 0 ≡ true = subst (λ (x : Answer). eqb (x .number) 0 ≡ true) e (eq-eqb (a .number) 0 n) in
-      subst⁻¹ (λ (x : List ℕ). Wrote o 0 x o′ r) (choose-true _ _ t)
-      (subst (λ (x : Answer). Wrote o 0 (eventsFrom window s (3 + firstLength s) 1 (x .config .state)) o′ r) e (rw f at w))
+      wrote-same (sym (choose-true _ _ t))
+      (subst (λ (x : Answer). Wrote o 0 (eventsFrom v window s (3 + firstLength s) 1 (x .config .state)) o′ r) e (rw f at w))
 
 -- a text at the start of the buffer, and what stands after it
-module _ (o t : List ℕ) {o′ : List ℕ} {r : ℕ} (n : length o ≡ room) (h : r ≤ room) (w : Wrote o 0 t o′ r) where
-  whole : o′ ≡ t ++ drop (0 + length t) o
-  whole = w .buffer ∙ sets-eq t o 0 (omega (arith, w .next))
-
+module _ (o t : List ℕ) {o′ : List ℕ} {r : ℕ} (n : length o ≡ room) (h : r < room) (w : Wrote o 0 t o′ r) where
   size : length t ≡ r
   size = omega (arith, w .next)
+
+  whole : o′ ≡ t ++ drop (0 + length t) o
+  whole = w .buffer ∙ sets-eq t o 0 (omega (arith, size))
 
   pub text-at-start : take r o′ ≡ t
   text-at-start = rw whole (take-at t (drop (0 + length t) o) r size)
 
   pub rest-stays : drop r o′ ≡ drop r o
-  rest-stays = rw whole (drop-at t (drop (0 + length t) o) r size ∙ rw (← w .next))
+  rest-stays = let e : 0 + length t ≡ r = omega (arith, size) in rw whole (drop-at t (drop (0 + length t) o) r size ∙ rw e)
 
   pub text-size : r ≡ length t
   text-size = sym size
 
   pub text-counts : Counts r o′
   text-counts = (rw (w .buffer, length-sets o 0 t) (omega arith), rw text-at-start text-size)
-
--- the needs of a good first record
-pub first-told : (s : List ℕ) {b : Bool} → b ≡ firstOk s → not b ≡ false → First s
-first-told s e h = first-good s (told-true e h)
 
 -- what `trail` promises leaves one length and one buffer
 pub one-text : (t old o o′ : List ℕ) (r r′ : ℕ) → take r o ≡ t → r ≡ length t → drop r o ≡ drop r old → take r′ o′ ≡ t → r′ ≡ length t → drop r′ o′ ≡ drop r′ old → (r ≡ r′) × (o ≡ o′)

@@ -1,19 +1,18 @@
 // The trail of document 01: from the bytes of an input to the text that the program prints.
 ghost use mathlib.Core.Path.{_≡_};
-ghost use Prim.Native.Nat.{_≤_};
+ghost use Prim.Native.Nat.{_<_};
 ghost use lib.ListN.{length, take, drop};
 ghost use Rattle.io.specs.Counts.{Counts};
-ghost use Rattle.trails.specs.Text.{Wrote, room};
-ghost use Rattle.trails.specs.Trail.{trailOf};
-use input::VERSION;
-use input::first_ok;
-use input::version;
+ghost use Rattle.octets.specs.Written.{Wrote};
+ghost use Rattle.trails.specs.Trail.{trailOf, trailUnder, room};
+use first::first_ok;
+use lines::put_bad;
+use octets::limits::longest_first;
+use octets::read::byte_at;
 use run::started;
-use text::put_bad;
 
-mod input;
+mod first;
 mod run;
-mod text;
 
 // The bytes of the lent buffer: at most 5,041 lines of at most 39 bytes and the last line fit.
 pub const ROOM: usize = 262144;
@@ -27,7 +26,7 @@ pub fn trail(input: &[u8], out: &mut [u8; ROOM]) -> usize
 {
     // Lent as a slice, the array shows the proof how long it is.
     length_of(out);
-    written(input, out)
+    whole(input, out)
 }
 
 fn length_of(out: &[u8]) -> usize {
@@ -35,15 +34,23 @@ fn length_of(out: &[u8]) -> usize {
 }
 
 // The text, written from the start of the buffer.
-fn written(input: &[u8], out: &mut [u8; ROOM]) -> usize
+fn whole(input: &[u8], out: &mut [u8; ROOM]) -> usize
     ensures { λ r. ⌜ Wrote (now (out .entry)) 0 (trailOf (now (input .entry))) (now (out .exit)) r ⌝ }
-    ensures { λ r. ⌜ r ≤ room ⌝ }
+    ensures { λ r. ⌜ r < room ⌝ }
 {
-    if version(input) != VERSION {
+    written(input, out, byte_at(input, 0))
+}
+
+// The text under the version, in the same place.
+fn written(input: &[u8], out: &mut [u8; ROOM], version: u8) -> usize
+    ensures { λ r. ⌜ Wrote (now (out .entry)) 0 (trailUnder version (now (input .entry))) (now (out .exit)) r ⌝ }
+    ensures { λ r. ⌜ r < room ⌝ }
+{
+    if longest_first(version) < 1 {
         return put_bad(out, 0, 0);
     }
-    if !first_ok(input) {
+    if !first_ok(version, input) {
         return put_bad(out, 0, 1);
     }
-    started(input, out)
+    started(input, out, version)
 }

@@ -1,27 +1,72 @@
 // From reset to the last line: "reads one event after another until the input ends or a record is bad".
-ghost use Prim.Native.Nat.{_≤_};
-ghost use Rattle.trails.specs.Input.{window, reach, First};
-ghost use Rattle.trails.specs.Text.{Wrote, room};
-ghost use Rattle.trails.specs.Trail.{eventsFrom, startedFrom, resetBy};
+ghost use mathlib.Core.Path.{_≡_};
+ghost use Prim.Native.Nat.{_+_, _<_, _≤_};
+ghost use Rattle.rules.specs.Codes.{nodes};
+ghost use Rattle.model.specs.Answered.{answered};
+ghost use Rattle.octets.specs.Prefixed.{window, reach};
+ghost use Rattle.octets.specs.Written.{Wrote};
+ghost use Rattle.lines.specs.Lines.{line};
+ghost use Rattle.trails.specs.Trail.{First, room, shortest, firstLength, closingIn, eventOf, eventsFrom, startedFrom, resetBy};
 use crate::ROOM;
-use crate::input::EVENT;
-use crate::input::RECORD;
-use crate::input::event;
-use crate::input::number;
-use crate::input::parents;
-use crate::input::reach;
-use crate::text::put_bad;
-use crate::text::put_end;
-use crate::text::put_line;
+use crate::first::parents;
+use lines::put_bad;
+use lines::put_end;
+use lines::put_line;
 use model::Config;
+use octets::limits::EVENT;
+use octets::limits::PREFIX;
+use octets::limits::reach;
+use octets::read::event_at;
+use octets::read::length_at;
+use octets::read::word_at;
 use rules::Answer;
+use rules::Event;
+use rules::State;
+
+// An event record with its length.
+const RECORD: usize = PREFIX + EVENT;
+
+// The event of a record, as a trail of the version reads it.
+fn event(version: u8, r: &[u8; RECORD]) -> Event
+    ensures { λ e. ⌜ e ≡ eventOf version (now (r .entry)) ⌝ }
+{
+    event_at(r, PREFIX)
+}
+
+// The line of an event that a trail prints: an index has at most five digits.
+fn put_next(out: &mut [u8; ROOM], at: usize, index: u64, ev: Event, number: u8, value: u64) -> usize
+    requires { ⌜ index < 100000 ⌝ }
+    ensures { λ r. ⌜ Wrote (now (out .entry)) at (line index (ev .kind) (ev .node) number value) (now (out .exit)) r ⌝ }
+    ensures { λ r. ⌜ r ≤ at + 39 ⌝ }
+{
+    put_line(out, at, index, ev, number, value)
+}
+
+// The last line: the input ended at `end`, or a bad record stands there. The configuration's arrays are lent, not copied.
+fn put_closing<'a>(
+    input: &[u8],
+    out: &mut [u8; ROOM],
+    at: usize,
+    end: usize,
+    n: u8,
+    rights: &'a [u8; State::NODES],
+    entries: &'a [u8; State::CELLS],
+) -> usize
+    ensures { λ r. ⌜ Wrote (now (out .entry)) at (closingIn (now (input .entry)) end n (now (rights .entry)) (now (entries .entry))) (now (out .exit)) r ⌝ }
+    ensures { λ r. ⌜ r ≤ at + 800 ⌝ }
+{
+    if end >= input.len() {
+        return put_end(out, at, n, rights, entries);
+    }
+    put_bad(out, at, end)
+}
 
 // The text of the events from the offset `first` on. The loop breaks with the offset of a bad record, or of the input's end.
-fn events(input: &[u8], out: &mut [u8; ROOM], start: Config, first: usize) -> usize
+fn events(input: &[u8], out: &mut [u8; ROOM], version: u8, start: Config, first: usize) -> usize
     requires { ⌜ 12 ≤ first ⌝ }
     requires { ⌜ first ≤ reach (now input) ⌝ }
-    ensures { λ r. ⌜ Wrote (now (out .entry)) 0 (eventsFrom window (now (input .entry)) first 1 (start .state)) (now (out .exit)) r ⌝ }
-    ensures { λ r. ⌜ r ≤ room ⌝ }
+    ensures { λ r. ⌜ Wrote (now (out .entry)) 0 (eventsFrom version window (now (input .entry)) first 1 (start .state)) (now (out .exit)) r ⌝ }
+    ensures { λ r. ⌜ r < room ⌝ }
 {
     let limit = reach(input);
     let mut c = start;
@@ -44,35 +89,49 @@ fn events(input: &[u8], out: &mut [u8; ROOM], start: Config, first: usize) -> us
             record[k] = input[at + k];
             k = k + 1;
         }
-        if number(&record, 0, 2) != EVENT {
+        if length_at(&record, 0) != EVENT as u64 {
             break 'events at;
         }
-        let ev = event(&record);
+        let ev = event(version, &record);
         let a = c.onward(ev);
         let next = a.config;
         c = next;
-        p = put_line(out, p, index, ev, a.number, a.value);
+        p = put_next(out, p, index, ev, a.number, a.value);
         index = index + 1;
         at = at + RECORD;
     };
-    if end >= input.len() {
-        return put_end(out, p, c.state.count, &c.state.rights, &c.state.entries);
-    }
-    put_bad(out, p, end)
+    put_closing(
+        input,
+        out,
+        p,
+        end,
+        c.state.count,
+        &c.state.rights,
+        &c.state.entries,
+    )
 }
 
-// The text after a good first record: reset as it asks, then the events.
-pub fn started(input: &[u8], out: &mut [u8; ROOM]) -> usize
-    requires { ⌜ First (now input) ⌝ }
-    ensures { λ r. ⌜ Wrote (now (out .entry)) 0 (startedFrom (now (input .entry)) (resetBy (now (input .entry)))) (now (out .exit)) r ⌝ }
-    ensures { λ r. ⌜ r ≤ room ⌝ }
+// Reset, as the first record asks for it.
+fn reset_by(input: &[u8]) -> model::Answer
+    requires { ⌜ shortest ≤ firstLength (now input) ⌝ }
+    requires { ⌜ firstLength (now input) ≤ nodes + 7 ⌝ }
+    ensures { λ r. ⌜ r ≡ answered (resetBy (now (input .entry))) ⌝ }
 {
-    let n = number(input, 1, 2) as usize;
-    let count = n - 7;
-    let a = Config::reset(count as u8, parents(input, count), number(input, 3, 8));
+    let count = length_at(input, 1) as usize - 7;
+    Config::reset(count as u8, parents(input, count), word_at(input, 3))
+}
+
+// The text after a good first record: reset, then the events.
+pub fn started(input: &[u8], out: &mut [u8; ROOM], version: u8) -> usize
+    requires { ⌜ First version (now input) ⌝ }
+    ensures { λ r. ⌜ Wrote (now (out .entry)) 0 (startedFrom version (now (input .entry)) (resetBy (now (input .entry)))) (now (out .exit)) r ⌝ }
+    ensures { λ r. ⌜ r < room ⌝ }
+{
+    let a = reset_by(input);
     if a.number != Answer::ACCEPTED {
         return put_bad(out, 0, 1);
     }
     let c = a.config;
-    events(input, out, c, 3 + n)
+    let n = length_at(input, 1) as usize;
+    events(input, out, version, c, 3 + n)
 }

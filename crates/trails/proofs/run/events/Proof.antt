@@ -1,37 +1,51 @@
--- `events` meets its contract. The outer loop: what was written and what is left make the whole text; a record has 13 bytes
--- and a line at most 39. The inner loop: the first k bytes of the record are copied.
-use Prim.Native.Nat.{_≤_, _+_, _*_, _-_}
+-- most 39. The inner loop: the first k bytes of the record are copied.
+use Prim.Native.Nat.{ℕ, _≤_, _+_, _*_, _-_}
 use mathlib.Core.Path.{_≡_}
 use mathlib.Core.Bool.{false}
+use mathlib.Core.List.{List}
 use mathlib.Core.Logic.{⊎-elim}
 use native.Mathlib.Omega.{arith}
 use borrow.Author.Needs.{needs}
 use lib.ListN.{length, take, drop}
-use Rattle.trails.specs.Input.{window, recordSize, recordOk}
-use Rattle.trails.specs.Trail.{eventsFrom}
-use Rattle.trails.proofs.Running.{Left, more, left-all, byte-more, copied, ended, cut, wrong, whole, turned, ends, breaks}
+use Rattle.octets.specs.Prefixed.{window}
+use Rattle.trails.specs.Trail.{recordSize, recordAt, recordOk, eventsFrom}
+use Rattle.trails.proofs.Running.{Left, more, left-all, byte-more, copied, ended, cut, wrong, whole, turned, closes}
 use Rattle.trails.proofs.run.events.Statement.{statement}
 use Rattle.trails.proofs.run.events.Tie as tie
 
 abbrev Inv-record : tie.InvT-record
-Inv-record input out first limit c at index p record₀ k₀ «record» k =
+Inv-record input out version first limit c at index p record₀ k₀ «record» k =
     (k ≤ recordSize) × (length «record» ≡ recordSize) × (at + k ≤ limit) × (take k «record» ≡ take k (drop at input))
 
 abbrev μ-record : tie.MeasureT-record
-μ-record input out first limit c at index p record₀ k₀ «record» k = recordSize - k
+μ-record input out version first limit c at index p record₀ k₀ «record» k = recordSize - k
 
 abbrev Inv-events : tie.InvT-events
-Inv-events input out₀ first limit c₀ at₀ index₀ p₀ out c at index p =
+Inv-events input out₀ version first limit c₀ at₀ index₀ p₀ out c at index p =
     (at ≤ limit) × (1 ≤ index) × (13 * index ≤ at + 1) × (p + 39 ≤ 39 * index)
-    × Left out₀ (eventsFrom window input first 1 (c₀ .state)) out p (eventsFrom (more index) input at index (c .state))
+    × Left out₀ (eventsFrom version window input first 1 (c₀ .state)) out p (eventsFrom version (more index) input at index (c .state))
 
 abbrev μ-events : tie.MeasureT-events
-μ-events input out₀ first limit c₀ at₀ index₀ p₀ out c at index p = limit - at
+μ-events input out₀ version first limit c₀ at₀ index₀ p₀ out c at index p = limit - at
 
--- where the loop was left, no good record stands
-stopped : (j : tie.Joined1 Inv-record μ-record Inv-events μ-events) → (j .if1 .end ≡ j .before .events .at) × (recordOk (j .before .before .before .before .args .input .now) (j .before .events .at) ≡ false)
+-- a turn of the outer loop, and the input there
+abbrev Turn : Type 0
+Turn = tie.At-events Inv-record μ-record Inv-events μ-events
+
+abbrev given : Turn → List ℕ
+given t = t .before .before .before .args .input .now
+
+-- where the inner loop ended by itself, the record is the input's
+read : (c : tie.After-record Inv-record μ-record Inv-events μ-events) → (let t = c .before .before .before in c .before .«record» .«record» ≡ recordAt (given t) (t .events .at))
+read c =
+    let t = c .before .before .before in
+    let r = c .before .«record» in
+    copied (given t) (r .«record») (t .events .at) (r .k) (r .inv .1) (c .record-test .taken) (r .inv .0) (r .inv .3)
+
+-- where the outer loop was left, no good record stands
+stopped : (j : tie.Joined1 Inv-record μ-record Inv-events μ-events) → (j .if1 .end ≡ j .before .events .at) × (recordOk (given (j .before)) (j .before .events .at) ≡ false)
 stopped j =
-    let s = j .before .before .before .before .args .input .now in
+    let s = given (j .before) in
     let at = j .before .events .at in
     ⊎-elim (λ w. (w .1, ended s at (w .0 .taken)))
     (⊎-elim (λ w. (w .4, cut s at (w .1 .k) (omega arith) (w .2 .left)))
@@ -54,13 +68,13 @@ events-spec =
     (λ c. search needs)
     (λ c. search needs)
     (λ c. search needs)
-    (λ c. let row = c .before .before .before in
-    let r = row .«record» in
-    let turn = row .before .before in (
+    (λ c. let i = c .before .before .before in
+    let r = i .«record» in
+    let t = i .before .before in (
       search needs,
       search needs,
       search needs,
-      byte-more (r .«record») (turn .before .before .before .args .input .now) (turn .events .at) (r .k) (r .inv .1) (search needs) (search needs) (r .inv .3),
+      byte-more (r .«record») (given t) (t .events .at) (r .k) (r .inv .1) (search needs) (search needs) (r .inv .3),
     ))
     (λ c. search needs)
     (λ c κs. search needs)
@@ -73,24 +87,18 @@ events-spec =
     (λ c. let answered = c .before .before .before in
     let told = answered .before in
     let led = told .before .before .before in
-    let row = led .before .before .before in
-    let r = row .«record» in
-    let turn = row .before .before in
-    let s = turn .before .before .before .args .input .now in
-    let at = turn .events .at in
-    let q = copied s (r .«record») at (r .k) (r .inv .1) (led .before .before .record-test .taken) (r .inv .0) (r .inv .3) in
-    let ok = whole s at q (led .number .ensures) (told .before .before .if3 .left) (search needs) in (
+    let record-read = led .before .before in
+    let t = record-read .before .before .before in
+    let q = read record-read in
+    let ok = whole (given t) (t .events .at) q (led .length-at .ensures) (told .before .before .if3 .left) (search needs) in (
       search needs,
       search needs,
       search needs,
       search needs,
-      turned s at _ _ (turn .events .inv .4) (search needs) q ok (told .event .ensures) (answered .onward .ensures) (c .put-line .ensures .0),
+      turned _ (given t) (t .events .at) _ _ (t .events .inv .4) (search needs) q ok (told .event .ensures) (answered .onward .ensures) (c .put-next .ensures .0),
     ))
     (λ c κs. search needs)
-    (λ c. let j = c .before .before .before .before .before .before in
+    (λ c. let lent = c .before .before .before in
+    let j = lent .before .before in
     let g = stopped j in
-    (ends _ _ _ _ _ (j .before .events .inv .4) (g .0) (g .1) (search needs) (c .put-end .ensures .0), search needs))
-    (λ c κs. search needs)
-    (λ c. let j = c .before .before .before in
-    let g = stopped j in
-    (breaks _ _ _ _ _ (j .before .events .inv .4) (g .0) (g .1) (search needs) (c .put-bad .ensures .0), search needs)))
+    (closes _ _ _ _ _ _ (j .before .events .inv .4) (g .0) (g .1) (c .put-closing .ensures .0), search needs)))

@@ -1,0 +1,17 @@
+-- `put_number` meets its contract: the digits that the kit answers are the number's text.
+use borrow.Author.Needs.{needs}
+use Rattle.lines.proofs.Decimal.{digits-text}
+use Rattle.lines.proofs.Composing.{field-wrote}
+use Rattle.lines.proofs.put_number.Statement.{statement}
+use Rattle.lines.proofs.put_number.Tie as tie
+
+pub put-number-spec : {M : Type 1} → statement M
+put-number-spec =
+    tie.close (tie.spec
+    (λ c κs. search needs)
+    (λ c. search needs)
+    (λ c. search needs)
+    (λ c κs. search needs)
+    (λ c κs. search needs)
+    (λ c. search needs)
+    (λ c. search (field-wrote, digits-text, needs)))

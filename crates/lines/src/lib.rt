@@ -1,0 +1,106 @@
+// The lines that document 01 prints, put into a lent buffer. Each function writes from `at` on, as far as the buffer goes, and
+// answers the place after its text.
+ghost use Rattle.rules.specs.Names.{nameBy};
+ghost use Rattle.octets.specs.Written.{Wrote};
+ghost use Rattle.lines.specs.Lines.{field, asked, line, nameText, names, endLine, badLine};
+use octets::limits::least;
+use octets::put::put_byte;
+use octets::put::put_bytes;
+use rules::Event;
+use rules::State;
+use rules::codes::Name;
+
+// A number in decimal, and the byte after it.
+fn put_number(out: &mut [u8], at: usize, n: u64, after: u8) -> usize
+    ensures { λ r. ⌜ Wrote (now (out .entry)) at (field n after) (now (out .exit)) r ⌝ }
+{
+    let mut digits = [0u8; 20];
+    let k = io::decimal(n, &mut digits);
+    let p = put_bytes(out, at, &digits[..k]);
+    put_byte(out, p, after)
+}
+
+// What was asked: the index, the kind and the node.
+fn put_asked(out: &mut [u8], at: usize, index: u64, ev: Event) -> usize
+    ensures { λ r. ⌜ Wrote (now (out .entry)) at (asked index (ev .kind) (ev .node)) (now (out .exit)) r ⌝ }
+{
+    let p = put_number(out, at, index, b' ');
+    let q = put_number(out, p, ev.kind as u64, b' ');
+    put_number(out, q, ev.node as u64, b' ')
+}
+
+// The line of an event: what was asked, and the answer.
+pub fn put_line(out: &mut [u8], at: usize, index: u64, ev: Event, number: u8, value: u64) -> usize
+    ensures { λ r. ⌜ Wrote (now (out .entry)) at (line index (ev .kind) (ev .node) number value) (now (out .exit)) r ⌝ }
+{
+    let p = put_asked(out, at, index, ev);
+    let q = put_number(out, p, number as u64, b' ');
+    put_number(out, q, value, b'\n')
+}
+
+// The name of a node, after a space.
+fn put_name(out: &mut [u8], at: usize, name: u8) -> usize
+    ensures { λ r. ⌜ Wrote (now (out .entry)) at (nameText name) (now (out .exit)) r ⌝ }
+{
+    match name {
+        Name::N => put_bytes(out, at, b" N"),
+        Name::B => put_bytes(out, at, b" B"),
+        Name::T => put_bytes(out, at, b" T"),
+        Name::TB => put_bytes(out, at, b" TB"),
+        Name::TT => put_bytes(out, at, b" TT"),
+        _ => least(at, out.len()),
+    }
+}
+
+// The name of node x.
+fn put_name_of<'a>(
+    out: &mut [u8],
+    at: usize,
+    rights: &'a [u8; State::NODES],
+    entries: &'a [u8; State::CELLS],
+    x: u8,
+) -> usize
+    ensures { λ r. ⌜ Wrote (now (out .entry)) at (nameText (nameBy (now (rights .entry)) (now (entries .entry)) x)) (now (out .exit)) r ⌝ }
+{
+    put_name(out, at, engine::name_by(rights, entries, x))
+}
+
+// The names of the first n nodes.
+fn put_names<'a>(
+    out: &mut [u8],
+    at: usize,
+    n: u8,
+    rights: &'a [u8; State::NODES],
+    entries: &'a [u8; State::CELLS],
+) -> usize
+    ensures { λ r. ⌜ Wrote (now (out .entry)) at (names (now (rights .entry)) (now (entries .entry)) n) (now (out .exit)) r ⌝ }
+{
+    let mut p = least(at, out.len());
+    for x in 0..n {
+        p = put_name_of(out, p, rights, entries, x);
+    }
+    p
+}
+
+// "`end` and the node names in order". The configuration's arrays are lent, so that nothing is copied.
+pub fn put_end<'a>(
+    out: &mut [u8],
+    at: usize,
+    n: u8,
+    rights: &'a [u8; State::NODES],
+    entries: &'a [u8; State::CELLS],
+) -> usize
+    ensures { λ r. ⌜ Wrote (now (out .entry)) at (endLine n (now (rights .entry)) (now (entries .entry))) (now (out .exit)) r ⌝ }
+{
+    let p = put_bytes(out, at, b"end");
+    let q = put_names(out, p, n, rights, entries);
+    put_byte(out, q, b'\n')
+}
+
+// "`bad P`"
+pub fn put_bad(out: &mut [u8], at: usize, offset: usize) -> usize
+    ensures { λ r. ⌜ Wrote (now (out .entry)) at (badLine offset) (now (out .exit)) r ⌝ }
+{
+    let p = put_bytes(out, at, b"bad ");
+    put_number(out, p, offset as u64, b'\n')
+}

@@ -1,0 +1,3 @@
+-- How many bytes a configuration and an answer have.
+pub mod Sizes
+pub mod AnswerWhole
