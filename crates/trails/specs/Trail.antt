@@ -49,7 +49,7 @@ parentsOf s n = fill (λ k. byte s (11 + k)) 1 (n - 1) (replicate nodes 0)
 
 -- "Others: length 11: kind, node, other, value in 8 bytes.": the bytes of such a record with its length
 abbrev pub recordSize : ℕ
-recordSize = 13
+recordSize = prefixSize + eventSize
 
 abbrev pub recordAt : List ℕ → ℕ → List ℕ
 recordAt s at = take recordSize (drop at s)
