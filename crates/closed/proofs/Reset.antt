@@ -165,3 +165,10 @@ unfolding resetOf
 reset-closed n ps v =
     by-test (λ (a : Answer). a .number ≡ accepts → configurationOk (a .state) ≡ true) (not (treeOk n ps)) _ _
     (λ _ h. absurd (omega arith)) (λ g _. start-configuration n ps v (not-false _ g))
+
+-- on a good tree
+pub reset-tree : (n : ℕ) (ps : List ℕ) (v : ℕ) → resetOf n ps v .number ≡ accepts → goodTree (resetOf n ps v .state) ≡ true
+unfolding resetOf
+reset-tree n ps v =
+    by-test (λ (a : Answer). a .number ≡ accepts → goodTree (a .state) ≡ true) (not (treeOk n ps)) _ _
+    (λ _ h. absurd (omega arith)) (λ g _. start-tree n ps v (not-false _ g))

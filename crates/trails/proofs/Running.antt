@@ -13,8 +13,7 @@ use Rattle.words.proofs.Facts.{choose-true, choose-false}
 use Rattle.rules.specs.Step.{onwardOf}
 use Rattle.rules.specs.declared.State.{State}
 use Rattle.rules.specs.declared.Event.{Event}
-use Rattle.model.specs.Answered.{answered}
-use Rattle.model.specs.declared.Answer.{Answer}
+use Rattle.rules.specs.declared.Answer.{Answer}
 use Rattle.octets.specs.Prefixed.{window, reach, lengthAt}
 use Rattle.octets.specs.Written.{Wrote}
 use Rattle.octets.proofs.BytesWritten.{wrote-then, wrote-same}
@@ -85,17 +84,17 @@ more i = window + 1 - i
 -- a turn of the loop
 pub turned : {o₀ t o o′ : List ℕ} {p p′ : ℕ} (v : ℕ) (s : List ℕ) (at i : ℕ) (c : State) {r : List ℕ} {e : Event} {a : Answer}
     → Left o₀ t o p (eventsFrom v (more i) s at i c) → i ≤ window → r ≡ recordAt s at → recordOk s at ≡ true
-    → e ≡ eventOf v r → a ≡ answered (onwardOf c e) → Wrote o p (line i (e .kind) (e .node) (a .number) (a .value)) o′ p′
-    → Left o₀ t o′ p′ (eventsFrom v (more (i + 1)) s (at + recordSize) (i + 1) (a .config .state))
+    → e ≡ eventOf v r → a ≡ onwardOf c e → Wrote o p (line i (e .kind) (e .node) (a .number) (a .value)) o′ p′
+    → Left o₀ t o′ p′ (eventsFrom v (more (i + 1)) s (at + recordSize) (i + 1) (a .state))
 turned {o₀} {t} {o} {o′} {p} {p′} v s at i c {r} {e} {a} l h q ok f g w =
     let x : Event = eventOf v (recordAt s at) in
-    let b : Answer = answered (onwardOf c x) in
+    let b : Answer = onwardOf c x in
     let d : e ≡ x = f ∙ ap (eventOf v) q in
-    let k : a ≡ b = g ∙ ap (λ (y : Event). answered (onwardOf c y)) d in
+    let k : a ≡ b = g ∙ ap (onwardOf c) d in
     let u : Wrote o p (line i (x .kind) (x .node) (b .number) (b .value)) o′ p′ =
     subst (λ (z : Answer). Wrote o p (line i (x .kind) (x .node) (z .number) (z .value)) o′ p′) k
     (subst (λ (y : Event). Wrote o p (line i (y .kind) (y .node) (a .number) (a .value)) o′ p′) d w) in
-    subst⁻¹ (λ (z : Answer). Left o₀ t o′ p′ (eventsFrom v (more (i + 1)) s (at + recordSize) (i + 1) (z .config .state))) k
+    subst⁻¹ (λ (z : Answer). Left o₀ t o′ p′ (eventsFrom v (more (i + 1)) s (at + recordSize) (i + 1) (z .state))) k
     (left-less (lineOf i x (onwardOf c x)) _ (rw (goes v (more i) (more (i + 1)) s at i c (omega arith) ok) at l) u)
 
 -- the last line, where z is the offset with which the loop was left

@@ -1,5 +1,5 @@
 -- The first record, reset, and the trail as a whole.
-use mathlib.Core.Path.{_≡_, _∙_, sym, ap, subst}
+use mathlib.Core.Path.{_≡_, _∙_, sym, ap, subst, subst⁻¹}
 use mathlib.Core.Bool.{Bool, true, false, not, _&&_}
 use mathlib.Core.List.{List, _++_}
 use mathlib.Core.Logic.{_⊎_, inl, inr}
@@ -14,7 +14,9 @@ use Rattle.words.proofs.Facts.{both, decided, choose-true, choose-false}
 use Rattle.words.proofs.Laws.{told-not, told-true}
 use Rattle.io.specs.Counts.{Counts}
 use Rattle.rules.specs.Codes.{nodes}
+use Rattle.rules.specs.Tree.{goodTree}
 use Rattle.rules.specs.Step.{resetOf}
+use Rattle.closed.proofs.Reset.{reset-tree}
 use Rattle.model.specs.Answered.{answered}
 use Rattle.model.specs.declared.Answer.{Answer}
 use Rattle.octets.specs.Prefixed.{window, reach}
@@ -124,6 +126,13 @@ module _ {o o′ : List ℕ} {r : ℕ} (v : ℕ) (s : List ℕ) {a : Answer} (e 
       let t : eqb (resetBy s .number) 0 ≡ true = subst (λ (x : Answer). eqb (x .number) 0 ≡ true) e (eq-eqb (a .number) 0 n) in
       wrote-same (sym (choose-true _ _ t))
       (subst (λ (x : Answer). Wrote o 0 (eventsFrom v window s (3 + firstLength s) 1 (x .config .state)) o′ r) e (rw f at w))
+
+-- the tree that reset accepts is good
+pub grown : (s : List ℕ) {a : Answer} → a ≡ answered (resetBy s) → a .number ≡ 0 → goodTree (a .config .state) ≡ true
+unfolding resetBy
+grown s {a} e n =
+    let m : resetBy s .number ≡ 0 = subst (λ (x : Answer). x .number ≡ 0) e n in
+    subst⁻¹ (λ (x : Answer). goodTree (x .config .state) ≡ true) e (reset-tree (countOf s) (parentsOf s (countOf s)) (firstValue s) m)
 
 -- a text at the start of the buffer, and what stands after it
 module _ (o t : List ℕ) {o′ : List ℕ} {r : ℕ} (n : length o ≡ room) (h : r < room) (w : Wrote o 0 t o′ r) where

@@ -1,7 +1,9 @@
 // From reset to the last line: "reads one event after another until the input ends or a record is bad".
 ghost use mathlib.Core.Path.{_≡_};
 ghost use Prim.Native.Nat.{_+_, _<_, _≤_};
+ghost use mathlib.Core.Bool.{true};
 ghost use Rattle.rules.specs.Codes.{nodes};
+ghost use Rattle.rules.specs.Tree.{goodTree};
 ghost use Rattle.model.specs.Answered.{answered};
 ghost use Rattle.octets.specs.Prefixed.{window, reach};
 ghost use Rattle.octets.specs.Written.{Wrote};
@@ -9,6 +11,9 @@ ghost use Rattle.lines.specs.Lines.{line};
 ghost use Rattle.trails.specs.Trail.{First, room, shortest, firstLength, closingIn, eventOf, eventsFrom, startedFrom, resetBy};
 use crate::ROOM;
 use crate::first::parents;
+use engine::parts::act;
+use engine::parts::end_of;
+use engine::parts::node_of;
 use lines::put_bad;
 use lines::put_end;
 use lines::put_line;
@@ -62,14 +67,24 @@ fn put_closing<'a>(
 }
 
 // The text of the events from the offset `first` on. The loop breaks with the offset of a bad record, or of the input's end.
-fn events(input: &[u8], out: &mut [u8; ROOM], version: u8, start: Config, first: usize) -> usize
+// The configuration stands in its parts and is changed in place: an event copies a node and a link. Its tree is good, so number 1
+// is not looked for at each event.
+fn events(input: &[u8], out: &mut [u8; ROOM], version: u8, start: State, first: usize) -> usize
+    requires { ⌜ goodTree start ≡ true ⌝ }
     requires { ⌜ 12 ≤ first ⌝ }
     requires { ⌜ first ≤ reach (now input) ⌝ }
-    ensures { λ r. ⌜ Wrote (now (out .entry)) 0 (eventsFrom version window (now (input .entry)) first 1 (start .state)) (now (out .exit)) r ⌝ }
+    ensures { λ r. ⌜ Wrote (now (out .entry)) 0 (eventsFrom version window (now (input .entry)) first 1 start) (now (out .exit)) r ⌝ }
     ensures { λ r. ⌜ r < room ⌝ }
 {
     let limit = reach(input);
-    let mut c = start;
+    let count = start.count;
+    let parents = start.parents;
+    let mut rights = start.rights;
+    let mut entries = start.entries;
+    let mut to_probe = start.to_probe;
+    let mut pending = start.pending;
+    let mut nodes = start.nodes;
+    let mut links = start.links;
     let mut at = first;
     let mut index: u64 = 1;
     let mut p: usize = 0;
@@ -93,22 +108,30 @@ fn events(input: &[u8], out: &mut [u8; ROOM], version: u8, start: Config, first:
             break 'events at;
         }
         let ev = event(version, &record);
-        let a = c.onward(ev);
-        let next = a.config;
-        c = next;
+        let x = node_of(ev);
+        let m = nodes[x];
+        let j = end_of(ev, m);
+        let l = links[j];
+        let a = act(
+            count,
+            &parents,
+            &mut rights,
+            &mut entries,
+            &mut to_probe,
+            &mut pending,
+            m,
+            l,
+            ev,
+        );
+        let node = a.node;
+        let link = a.link;
+        nodes[x] = node;
+        links[j] = link;
         p = put_next(out, p, index, ev, a.number, a.value);
         index = index + 1;
         at = at + RECORD;
     };
-    put_closing(
-        input,
-        out,
-        p,
-        end,
-        c.state.count,
-        &c.state.rights,
-        &c.state.entries,
-    )
+    put_closing(input, out, p, end, count, &rights, &entries)
 }
 
 // Reset, as the first record asks for it.
@@ -132,6 +155,7 @@ pub fn started(input: &[u8], out: &mut [u8; ROOM], version: u8) -> usize
         return put_bad(out, 0, 1);
     }
     let c = a.config;
+    let s = c.state;
     let n = length_at(input, 1) as usize;
-    events(input, out, version, c, 3 + n)
+    events(input, out, version, s, 3 + n)
 }

@@ -1,3 +1,4 @@
+-- `events` meets its contract. The outer loop: what was written and what is left make the whole text, and each event took a line of at
 -- most 39. The inner loop: the first k bytes of the record are copied.
 use Prim.Native.Nat.{ℕ, _≤_, _+_, _*_, _-_}
 use mathlib.Core.Path.{_≡_}
@@ -7,6 +8,8 @@ use mathlib.Core.Logic.{⊎-elim}
 use native.Mathlib.Omega.{arith}
 use borrow.Author.Needs.{needs}
 use lib.ListN.{length, take, drop}
+use Rattle.rules.specs.declared.State.{State}
+use Rattle.engine.proofs.Moving.{moves, onward-good}
 use Rattle.octets.specs.Prefixed.{window}
 use Rattle.trails.specs.Trail.{recordSize, recordAt, recordOk, eventsFrom}
 use Rattle.trails.proofs.Running.{Left, more, left-all, byte-more, copied, ended, cut, wrong, whole, turned, closes}
@@ -14,26 +17,50 @@ use Rattle.trails.proofs.run.events.Statement.{statement}
 use Rattle.trails.proofs.run.events.Tie as tie
 
 abbrev Inv-record : tie.InvT-record
-Inv-record input out version first limit c at index p record₀ k₀ «record» k =
+Inv-record input out version first limit count parents rights entries to-probe pending nodes links at index p record₀ k₀ «record» k =
     (k ≤ recordSize) × (length «record» ≡ recordSize) × (at + k ≤ limit) × (take k «record» ≡ take k (drop at input))
 
 abbrev μ-record : tie.MeasureT-record
-μ-record input out version first limit c at index p record₀ k₀ «record» k = recordSize - k
+μ-record input out version first limit count parents rights entries to-probe pending nodes links at index p record₀ k₀ «record» k = recordSize - k
 
 abbrev Inv-events : tie.InvT-events
-Inv-events input out₀ version first limit c₀ at₀ index₀ p₀ out c at index p =
+Inv-events input out₀ version first limit count parents rights₀ entries₀ to-probe₀ pending₀ nodes₀ links₀ at₀ index₀ p₀ out rights entries to-probe pending nodes links at index p =
     (at ≤ limit) × (1 ≤ index) × (13 * index ≤ at + 1) × (p + 39 ≤ 39 * index)
-    × Left out₀ (eventsFrom version window input first 1 (c₀ .state)) out p (eventsFrom version (more index) input at index (c .state))
+    × Left out₀ (eventsFrom version window input first 1 (record { count = count; parents = parents; rights = rights₀; entries = entries₀; «to_probe» = to-probe₀; pending = pending₀; nodes = nodes₀; links = links₀ })) out p
+    (eventsFrom version (more index) input at index (record { count = count; parents = parents; rights = rights; entries = entries; «to_probe» = to-probe; pending = pending; nodes = nodes; links = links }))
 
 abbrev μ-events : tie.MeasureT-events
-μ-events input out₀ version first limit c₀ at₀ index₀ p₀ out c at index p = limit - at
+μ-events input out₀ version first limit count parents rights₀ entries₀ to-probe₀ pending₀ nodes₀ links₀ at₀ index₀ p₀ out rights entries to-probe pending nodes links at index p = limit - at
 
--- a turn of the outer loop, and the input there
+-- a turn of the outer loop, the input there and the configuration
 abbrev Turn : Type 0
 Turn = tie.At-events Inv-record μ-record Inv-events μ-events
 
+-- how far a record may reach, the start of the function, and what it was given
+abbrev limited : Turn → tie.After-reach Inv-record μ-record Inv-events μ-events
+limited t = let s = t .before .before .before .before in s .before .before .before .before
+
+abbrev begun : Turn → tie.Start Inv-record μ-record Inv-events μ-events
+begun t = limited t .before .before
+
 abbrev given : Turn → List ℕ
-given t = t .before .before .before .args .input .now
+given t = begun t .args .input .now
+
+-- the way back from an event that was acted: its end, its record, and the turn
+abbrev Acted : Type 0
+Acted = tie.After-act Inv-record μ-record Inv-events μ-events
+
+abbrev ending : Acted → tie.After-end-of Inv-record μ-record Inv-events μ-events
+ending a = let l = a .before .before .before .before in l .before .before .before
+
+abbrev telling : Acted → tie.After-event Inv-record μ-record Inv-events μ-events
+telling a = ending a .before .before .before
+
+abbrev reading : Acted → tie.After-record Inv-record μ-record Inv-events μ-events
+reading a = let l = telling a .before .before .before in l .before .before
+
+abbrev turn : Acted → Turn
+turn a = reading a .before .before .before
 
 -- where the inner loop ended by itself, the record is the input's
 read : (c : tie.After-record Inv-record μ-record Inv-events μ-events) → (let t = c .before .before .before in c .before .«record» .«record» ≡ recordAt (given t) (t .events .at))
@@ -80,25 +107,38 @@ events-spec =
     (λ c κs. search needs)
     (λ c κs. search needs)
     (λ c κs. search needs)
+    (λ c. search needs)
+    (λ c. search needs)
+    (λ c κs. search needs)
+    (λ c. search needs)
+    (λ c. search needs)
     (λ c κs. search needs)
     (λ c. search needs)
     (λ c. search needs)
     (λ c. search needs)
-    (λ c. let answered = c .before .before .before in
-    let told = answered .before in
-    let led = told .before .before .before in
-    let record-read = led .before .before in
-    let t = record-read .before .before .before in
-    let q = read record-read in
-    let ok = whole (given t) (t .events .at) q (led .length-at .ensures) (told .before .before .if3 .left) (search needs) in (
+    (λ c. search needs)
+    (λ c κs. let a = c .before .before .before in let t = turn a in search needs)
+    (λ c. let t = turn (c .before .before .before .before) in let i = t .events .inv in let w = limited t .reach .ensures in search needs)
+    (λ c. let t = turn (c .before .before .before .before) in let i = t .events .inv in let w = limited t .reach .ensures in search needs)
+    (λ c. let r = reading (c .before .before .before .before) in let k = r .before .«record» .inv in let d = r .record-test .taken in search needs)
+    (λ c. let a = c .before .before .before .before in
+    let t = turn a in
+    let e = telling a in
+    let r = reading a in
+    let k = r .before .«record» .inv in
+    let d = r .record-test .taken in
+    let i = t .events .inv in
+    let w = limited t .reach .ensures in
+    let q = read r in
+    let ok = whole (given t) (t .events .at) q (e .before .before .before .length-at .ensures) (e .before .before .if3 .left) (search needs) in
+    let g = onward-good _ _ (begun t .pre .0) (moves _ _ (ending a .before .before .node-of .ensures .0) (ending a .end-of .ensures .0) (a .act .ensures)) in (
       search needs,
       search needs,
       search needs,
       search needs,
-      turned _ (given t) (t .events .at) _ _ (t .events .inv .4) (search needs) q ok (told .event .ensures) (answered .onward .ensures) (c .put-next .ensures .0),
+      turned _ (given t) (t .events .at) _ _ (t .events .inv .4) (search needs) q ok (e .event .ensures) g (c .put-next .ensures .0),
     ))
     (λ c κs. search needs)
-    (λ c. let lent = c .before .before .before in
-    let j = lent .before .before in
+    (λ c. let j = c .before .before .before .before in
     let g = stopped j in
     (closes _ _ _ _ _ _ (j .before .events .inv .4) (g .0) (g .1) (c .put-closing .ensures .0), search needs)))

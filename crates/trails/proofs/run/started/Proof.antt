@@ -1,6 +1,6 @@
 -- `started` meets its contract: a bad tree is bad at once.
 use borrow.Author.Needs.{needs}
-use Rattle.trails.proofs.Starting.{bad-alone, few-nodes, bad-tree, good-tree}
+use Rattle.trails.proofs.Starting.{bad-alone, few-nodes, bad-tree, good-tree, grown}
 use Rattle.trails.proofs.run.started.Statement.{statement}
 use Rattle.trails.proofs.run.started.Tie as tie
 
@@ -12,5 +12,5 @@ started-spec =
     (λ c. (search (bad-tree), search (bad-alone)))
     (λ c κs. search needs)
     (λ c. search needs)
-    (λ c κs. search needs)
+    (λ c κs. search (grown, needs))
     (λ c. (search (good-tree), search needs)))
