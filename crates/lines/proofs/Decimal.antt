@@ -1,6 +1,6 @@
 -- The digits that the kit's `decimal` promises are those of `spelled`, and how many there are.
 use mathlib.Core.Path.{_≡_, _∙_}
-use mathlib.Core.List.{List}
+use mathlib.Core.List.{List, [], _∷_}
 use Prim.Native.Nat.{ℕ, zero, suc, _+_, _-_, _*_, _/_, _%_, _^_, _<_, _≤_, zero-le}
 use native.Mathlib.Nat.{not-suc-le-zero, one-le-pow, mod-eq-of-lt, mod-lt, div-lt-iff-lt-mul, le-div-iff-mul-le, pow-le-pow-right}
 use native.Mathlib.Decide.{decLt}
@@ -79,3 +79,8 @@ module _ (n r : ℕ) (xs : List ℕ) (k : Counts r xs) (f : Fewest 10 1 n r) (h 
 
   pub digits-text : take r xs ≡ digits 10 r n → take r xs ≡ decimal n
   digits-text e = e ∙ digits-spelled r 20 n (few n r f h) f
+
+-- one digit
+pub digit-text : (n : ℕ) → n < 10 → ((48 + n) ∷ []) ≡ decimal n
+unfolding spelled choose
+digit-text n h = rw (lt-ltb n 10 h)

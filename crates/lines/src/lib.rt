@@ -1,5 +1,6 @@
 // The lines that document 01 prints, put into a lent buffer. Each function writes from `at` on, as far as the buffer goes, and
 // answers the place after its text.
+ghost use Prim.Native.Nat.{_<_};
 ghost use Rattle.rules.specs.Names.{nameBy};
 ghost use Rattle.octets.specs.Written.{Wrote};
 ghost use Rattle.lines.specs.Lines.{field, asked, line, nameText, names, endLine, badLine};
@@ -10,8 +11,27 @@ use rules::Event;
 use rules::State;
 use rules::codes::Name;
 
+// A number of one digit, as most are, and the byte after it.
+fn put_digit(out: &mut [u8], at: usize, n: u64, after: u8) -> usize
+    requires { ⌜ n < 10 ⌝ }
+    ensures { λ r. ⌜ Wrote (now (out .entry)) at (field n after) (now (out .exit)) r ⌝ }
+{
+    let p = put_byte(out, at, b'0' + n as u8);
+    put_byte(out, p, after)
+}
+
 // A number in decimal, and the byte after it.
 fn put_number(out: &mut [u8], at: usize, n: u64, after: u8) -> usize
+    ensures { λ r. ⌜ Wrote (now (out .entry)) at (field n after) (now (out .exit)) r ⌝ }
+{
+    if n < 10 {
+        return put_digit(out, at, n, after);
+    }
+    put_digits(out, at, n, after)
+}
+
+// The same of any number.
+fn put_digits(out: &mut [u8], at: usize, n: u64, after: u8) -> usize
     ensures { λ r. ⌜ Wrote (now (out .entry)) at (field n after) (now (out .exit)) r ⌝ }
 {
     let mut digits = [0u8; 20];

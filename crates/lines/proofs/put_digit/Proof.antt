@@ -1,0 +1,16 @@
+-- `put_digit` meets its contract: one digit is the number's text.
+use borrow.Author.Needs.{needs}
+use Rattle.lines.proofs.Decimal.{digit-text}
+use Rattle.lines.proofs.Composing.{field-wrote}
+use Rattle.lines.proofs.put_digit.Statement.{statement}
+use Rattle.lines.proofs.put_digit.Tie as tie
+
+pub put-digit-spec : {M : Type 1} → statement M
+put-digit-spec =
+    tie.close (tie.spec
+    (λ c. search needs)
+    (λ c. search needs)
+    (λ c κs. search needs)
+    (λ c κs. search needs)
+    (λ c. search needs)
+    (λ c. search (field-wrote, digit-text, needs)))
