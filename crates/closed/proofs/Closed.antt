@@ -13,26 +13,19 @@ use Rattle.rules.specs.Configuration.{configurationOk}
 use Rattle.rules.specs.Scenes.{sceneOf}
 use Rattle.rules.specs.Table.{Kind, kinds, numbered}
 use Rattle.rules.specs.Events.{otherFits, placeFits, placeOk}
-use Rattle.rules.specs.Step.{endOf, linkThere, doneBy, nextOf, stepOf, onwardOf}
+use Rattle.rules.specs.Step.{endOf, linkThere, nextOf, stepOf, onwardOf}
 use Rattle.rules.specs.declared.State.{State}
 use Rattle.rules.specs.declared.Event.{Event}
 use Rattle.writes.proofs.Writes.{Sized}
-use Rattle.writes.proofs.Effects.{store-writes, load-miss-writes, store-miss-writes, evict-writes, send-acquire-writes, take-acquire-writes, send-probe-writes, take-probe-writes, send-probe-ack-writes, take-probe-ack-writes, take-grant-writes, send-grant-ack-writes, send-grant-writes, take-grant-ack-writes, send-release-writes, take-release-writes, send-release-ack-writes, take-release-ack-writes}
+use Rattle.writes.proofs.Effects.{load-writes, store-writes, load-miss-writes, store-miss-writes, evict-writes, send-acquire-writes, take-acquire-writes, send-probe-writes, take-probe-writes, send-probe-ack-writes, take-probe-ack-writes, take-grant-writes, send-grant-ack-writes, send-grant-writes, take-grant-ack-writes, send-release-writes, take-release-writes, send-release-ack-writes, take-release-ack-writes}
 use Rattle.writes.proofs.Needs.{store-needs, load-miss-needs, store-miss-needs, evict-needs, send-acquire-needs, take-acquire-needs, take-probe-needs, send-probe-ack-needs, take-probe-ack-needs, take-grant-needs, send-grant-ack-needs, send-grant-needs, send-release-needs, take-release-needs}
-use Rattle.writes.proofs.Judged.{tree, known, Taken, step-taken, onward-taken, Every, end, each, by-kind}
+use Rattle.writes.proofs.Judged.{linkOf, done, tree, known, Taken, step-taken, onward-taken, Every, end, each, by-kind}
 use Rattle.closed.proofs.Frame.{Here, Kept, in-array, child-array}
-use Rattle.closed.proofs.Local.{load-writes, load-keeps, store-keeps, load-miss-keeps, store-miss-keeps, evict-keeps}
+use Rattle.closed.proofs.Local.{load-keeps, store-keeps, load-miss-keeps, store-miss-keeps, evict-keeps}
 use Rattle.closed.proofs.Acquire.{send-acquire-keeps, take-acquire-keeps}
 use Rattle.closed.proofs.Probe.{send-probe-keeps, take-probe-keeps, send-probe-ack-keeps, take-probe-ack-keeps}
 use Rattle.closed.proofs.Grant.{take-grant-keeps, send-grant-ack-keeps, send-grant-keeps, take-grant-ack-keeps}
 use Rattle.closed.proofs.Release.{send-release-keeps, take-release-keeps, send-release-ack-keeps, take-release-ack-keeps}
-
--- the link that the kind acts on, and the configuration after it
-abbrev linkOf : Kind → State → Event → ℕ
-linkOf k s e = endOf (k .row .end) (node s (e .node)) (e .node) (e .other)
-
-abbrev done : Kind → State → Event → State
-done k s e = doneBy k s e (linkOf k s e) (sceneOf s (e .node) (linkOf k s e))
 
 -- the kind gives a configuration, where it is in place, its link is there and its needs hold
 abbrev Keeps : Kind → Type 0

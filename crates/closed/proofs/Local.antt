@@ -2,27 +2,24 @@
 use mathlib.Core.Path.{_≡_, refl}
 use mathlib.Core.Bool.{Bool, true, not, and-false, or-true}
 use mathlib.Core.Logic.{inl}
-use Prim.Native.Nat.{ℕ, _<_}
+use Prim.Native.Nat.{ℕ}
 use native.Mathlib.Omega.{arith}
 use borrow.Author.Tests.{eqb-true}
 use lib.Dec.{eqb}
 use Rattle.words.specs.Vocab.{choose}
 use Rattle.words.proofs.Facts.{by-test}
-use Rattle.rules.specs.Codes.{nodes, tip, rightsB, nameTT, idle, clear, ask, toLoad, toStore, toEvict}
-use Rattle.rules.specs.Kinds.{kindLoad}
+use Rattle.rules.specs.Codes.{tip, rightsB, nameTT, idle, clear, ask, toLoad, toStore, toEvict}
 use Rattle.rules.specs.With.{withPhase, withPurpose}
 use Rattle.rules.specs.Cells.{rights, entry, toProbe, pending, node, link, phase, requester}
 use Rattle.rules.specs.Tree.{isChild, isLeaf}
 use Rattle.rules.specs.Names.{nameOf}
 use Rattle.rules.specs.Configuration.{copyOk, serving, evicting, workOk, atLeaf, leafOk, hasRequester}
-use Rattle.rules.specs.Scenes.{sceneOf}
-use Rattle.rules.specs.Settle.{nextPhase, settledPhase}
+use Rattle.rules.specs.Settle.{nextPhase}
 use Rattle.rules.specs.Local.{held}
-use Rattle.rules.specs.Table.{numbered, kindOf}
 use Rattle.rules.specs.declared.State.{State}
 use Rattle.rules.specs.declared.Event.{Event}
-use Rattle.writes.proofs.Writes.{Sized, Writes, effect-writes, with-same}
-use Rattle.writes.proofs.Effects.{after, StoreWrites, LoadMissWrites, StoreMissWrites, EvictWrites}
+use Rattle.writes.proofs.Writes.{Writes}
+use Rattle.writes.proofs.Effects.{LoadWrites, StoreWrites, LoadMissWrites, StoreMissWrites, EvictWrites}
 use Rattle.writes.proofs.Needs.{StoreNeeds, LoadMissNeeds, StoreMissNeeds, EvictNeeds}
 use Rattle.closed.proofs.Parts.{Main, with-main}
 use Rattle.closed.proofs.Fits.{Fits}
@@ -37,22 +34,12 @@ tip-named r trunks branches =
     by-test (λ (n : ℕ). n ≡ nameTT → r ≡ tip) (eqb r tip) _ _ (λ e _. eqb-true r tip e) λ _.
     by-test (λ (n : ℕ). n ≡ nameTT → r ≡ tip) (eqb r rightsB) _ _ (λ _ q. absurd (omega arith)) (λ _ q. absurd (omega arith))
 
--- t is s after a load
-abbrev pub LoadWrites : State → ℕ → State → Type 0
-LoadWrites s x t = Writes s t x x (rights s x) (node s x) (link s x) (entry s x) (toProbe s x) (pending s x)
-
-pub load-writes : (s : State) → Sized s → (e : Event) → e .node < nodes → LoadWrites s (e .node) (after kindLoad s e (e .node))
-unfolding numbered choose settledPhase
-load-writes s z e b =
-    effect-writes s z _ b _ b (kindOf kindLoad) e (sceneOf s (e .node) (e .node)) (sceneOf s (e .node) (e .node))
-    (λ i _. with-same (entry s (e .node)) _ i) (λ i _. with-same (toProbe s (e .node)) _ i) (λ i _. with-same (pending s (e .node)) _ i)
-
 module _ (s : State) (e : Event) (x : ℕ) (h : Here s x) where
   f : Fits s x
   f = own-fits h
 
   -- 1 | nothing changes
-  pub load-keeps : {t : State} → LoadWrites s x t → Kept s t
+  pub load-keeps : {t : State} → LoadWrites s e x t → Kept s t
   load-keeps w = kept-by h w record { place = inl refl; own = f .own; link = f .link; pairs = f .pairs }
 
   -- 2 | a node named TT has Tip, and may be dirty

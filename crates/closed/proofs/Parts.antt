@@ -1,13 +1,13 @@
 -- Number 2 by its subjects, as facts: a node's copy of the line and its three transactions, a link's slots, an entry with its set
 -- members. A step changes a few of these parts, and the others stand.
 use mathlib.Core.Path.{_≡_}
-use mathlib.Core.Bool.{Bool, true, not, _&&_, _||_, Bool·beq}
+use mathlib.Core.Bool.{Bool, true, not, _&&_, _||_}
 use Prim.Native.Nat.{ℕ, _<_}
 use native.Mathlib.Omega.{arith}
 use borrow.Author.Tests.{leb-true}
 use lib.Dec.{eqb, leb}
 use Rattle.words.proofs.Facts.{both, and-true}
-use Rattle.rules.specs.Codes.{levels, caps, rightsN, rightsB, tip, none, trunk, noCap, capN, acquireU, probeN, grantAck}
+use Rattle.rules.specs.Codes.{levels, rightsN, tip, none, trunk, capN, acquireU, probeN, grantAck}
 use Rattle.rules.specs.With.{withPhase, withPurpose, withRequester, withA, withB, withE}
 use Rattle.rules.specs.Configuration.{copyOk, workOk, leafOk, requesterOk, childOk, probeOk, nodeOk, upOk, downOk, linkOk, memberOk, entryOk, pairOk}
 use Rattle.rules.specs.Scenes.{filledC, filledD}

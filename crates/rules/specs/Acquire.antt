@@ -4,7 +4,7 @@ use Prim.Native.Nat.{ℕ}
 use lib.Dec.{eqb}
 use Rattle.words.specs.Vocab.{choose}
 use Rattle.rules.specs.Codes.{rightsN, rightsB, none, trunk, nameT, idle, ask, wait, noPurpose, toLoad, toStore, empty, acquireB, acquireT, acquireU}
-use Rattle.rules.specs.Cases.{PerPurpose, perPurpose, PerAcquire, perAcquire}
+use Rattle.rules.specs.Cases.{perPurpose, perAcquire}
 use Rattle.rules.specs.Scenes.{_▷_, fillsA, emptiesA, phaseBecomes, purposeBecomes, requesterBecomes}
 use Rattle.rules.specs.declared.Scene.{Scene}
 

@@ -5,7 +5,7 @@ use Prim.Native.Nat.{ℕ}
 use lib.Dec.{eqb, leb, ltb}
 use Rattle.words.specs.Vocab.{all}
 use Rattle.rules.specs.Codes.{nodes, rightsN, rightsB, tip, none, trunk, idle, noCap, capN, noChild, empty, acquireU, probeN, releaseData, releaseAck, grantAck}
-use Rattle.rules.specs.Cases.{PerPhase, perPhase, PerPurpose, perPurpose}
+use Rattle.rules.specs.Cases.{perPhase, perPurpose}
 use Rattle.rules.specs.Cells.{parent, rights, entry, toProbe, pending, node, link}
 use Rattle.rules.specs.Tree.{isChild, isLeaf}
 use Rattle.rules.specs.Messages.{carriesUp, carriesDown, isProbeAck}

@@ -4,7 +4,7 @@ use Prim.Native.Nat.{ℕ}
 use lib.Dec.{eqb}
 use Rattle.words.specs.Vocab.{choose}
 use Rattle.rules.specs.Codes.{rightsN, rightsB, tip, branch, trunk, nameTT, wait, confirm, give, await, empty, grantT, grantDataT, grantDataB, grantAck, shared, sole}
-use Rattle.rules.specs.Cases.{PerPurpose, perPurpose}
+use Rattle.rules.specs.Cases.{perPurpose}
 use Rattle.rules.specs.With.{withPhase, withNode}
 use Rattle.rules.specs.Names.{readableName}
 use Rattle.rules.specs.Messages.{carriesDown, grantedRights, entryFor}

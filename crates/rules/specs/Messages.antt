@@ -2,7 +2,7 @@
 use mathlib.Core.Bool.{Bool, true, false}
 use Prim.Native.Nat.{ℕ}
 use Rattle.rules.specs.Codes.{rightsB, tip, branch, trunk}
-use Rattle.rules.specs.Cases.{PerUp, perUp, PerDown, perDown}
+use Rattle.rules.specs.Cases.{perUp, perDown}
 
 -- slot C: the message has a value
 unfoldable pub carriesUp : ℕ → Bool

@@ -4,7 +4,7 @@ use Prim.Native.Nat.{ℕ}
 use lib.Dec.{eqb, leb}
 use Rattle.words.specs.Vocab.{choose}
 use Rattle.rules.specs.Codes.{rightsN, rightsB, none, trunk, leaving, capB, capN, noChild, empty, probeAck, probeAckData}
-use Rattle.rules.specs.Cases.{PerPhase, perPhase, PerPurpose, perPurpose, PerCap, perCap}
+use Rattle.rules.specs.Cases.{perPhase, perPurpose, perCap}
 use Rattle.rules.specs.Messages.{isProbeAck, fromTrunk}
 use Rattle.rules.specs.Scenes.{_▷_, fillsB, fillsC, emptiesB, emptiesC, rightsFall, becomesClean, takesData, entryBecomes, leavesToProbe, entersPending, leavesPending, opens, closes}
 use Rattle.rules.specs.declared.Scene.{Scene}

@@ -1,13 +1,10 @@
 -- Settle, and which entries are probed for.
-use mathlib.Core.Bool.{Bool, true, false, not, _&&_, _||_}
-use mathlib.Core.List.{List}
-use Prim.Native.Nat.{ℕ, _*_}
-use lib.ListN.{getD}
+use mathlib.Core.Bool.{Bool, true, false, _&&_, _||_}
+use Prim.Native.Nat.{ℕ}
 use lib.Dec.{eqb}
-use Rattle.words.specs.Vocab.{fill, choose}
-use Rattle.rules.specs.Codes.{nodes, rightsN, tip, none, trunk, nameT, clear, ask, give, letGo}
-use Rattle.rules.specs.Cases.{PerPurpose, perPurpose, PerCap, perCap}
-use Rattle.rules.specs.Cells.{cell}
+use Rattle.words.specs.Vocab.{choose}
+use Rattle.rules.specs.Codes.{rightsN, tip, none, clear, ask, give, letGo}
+use Rattle.rules.specs.Cases.{perPurpose}
 use Rattle.rules.specs.declared.Node.{Node}
 use Rattle.rules.specs.declared.kinds.Settles.{Settles}
 use Rattle.rules.specs.declared.kinds.Settles.the-variants.{Never, Again, Anew}

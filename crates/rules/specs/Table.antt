@@ -1,5 +1,5 @@
 -- The event table: a kind is one row. It sees the scene of one node and one link, and changes nothing else.
-use mathlib.Core.Bool.{Bool, true, false, _||_}
+use mathlib.Core.Bool.{Bool, false, _||_}
 use mathlib.Core.List.{List, [], _∷_}
 use Prim.Native.Nat.{ℕ}
 use lib.Dec.{eqb}

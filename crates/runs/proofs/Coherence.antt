@@ -2,7 +2,7 @@
 use mathlib.Core.Path.{_≡_, sym, _∙_, ap, subst}
 use Prim.Native.Nat.{ℕ}
 use Rattle.rules.specs.Codes.{accepts}
-use Rattle.rules.specs.Step.{resetOf, stepOf, onwardOf}
+use Rattle.rules.specs.Step.{stepOf}
 use Rattle.rules.specs.declared.State.{State}
 use Rattle.rules.specs.declared.Event.{Event}
 use Rattle.laws.proofs.Onward.{step-is-onward}

@@ -4,7 +4,7 @@ use mathlib.Core.Bool.{true, false}
 use Prim.Native.Nat.{ℕ, _<_}
 use Rattle.words.specs.Vocab.{choose}
 use Rattle.rules.specs.Codes.{nodes, rightsN, none, ask, wait, await, confirm, leaving, toLoad, toStore, toEvict, noCap, noChild, empty, grantAck, releaseAck}
-use Rattle.rules.specs.Kinds.{kindStore, kindLoadMiss, kindStoreMiss, kindEvict, kindSendAcquire, kindTakeAcquire, kindSendProbe, kindTakeProbe, kindSendProbeAck, kindTakeProbeAck, kindTakeGrant, kindSendGrantAck, kindSendGrant, kindTakeGrantAck, kindSendRelease, kindTakeRelease, kindSendReleaseAck, kindTakeReleaseAck}
+use Rattle.rules.specs.Kinds.{kindLoad, kindStore, kindLoadMiss, kindStoreMiss, kindEvict, kindSendAcquire, kindTakeAcquire, kindSendProbe, kindTakeProbe, kindSendProbeAck, kindTakeProbeAck, kindTakeGrant, kindSendGrantAck, kindSendGrant, kindTakeGrantAck, kindSendRelease, kindTakeRelease, kindSendReleaseAck, kindTakeReleaseAck}
 use Rattle.rules.specs.With.{withDirty, withValue, withPhase, withPurpose, withRequester, withProbe, withCap, withRelease, withA, withB, withE}
 use Rattle.rules.specs.Cells.{rights, entry, toProbe, pending, node, link, dirty, value, purpose, probing, cap, slotA, slotB, slotD, down, kept}
 use Rattle.rules.specs.Tree.{isLeaf}
@@ -36,6 +36,10 @@ abbrev pub left : Node → Node
 left m = withPhase (withDirty (withValue m 0) false) leaving
 
 -- what t is after the kind, by the event e at x
+
+-- 1
+abbrev pub LoadWrites : State → Event → ℕ → State → Type 0
+LoadWrites s e x t = Writes s t x x (rights s x) (node s x) (link s x) (entry s x) (toProbe s x) (pending s x)
 
 -- 2
 abbrev pub StoreWrites : State → Event → ℕ → State → Type 0
@@ -132,6 +136,12 @@ module _ (s : State) (z : Sized s) (e : Event) (hx : e .node < nodes) where
 
   same-pending : (k i : ℕ) → i < nodes → with-at (pending s (e .node)) k (pending s (e .node) k) i ≡ pending s (e .node) i
   same-pending k i _ = with-same (pending s (e .node)) k i
+
+  -- 1
+  pub load-writes : LoadWrites s e (e .node) (after kindLoad s e (e .node))
+  unfolding numbered choose settledPhase
+  load-writes =
+      effect-writes s z (e .node) hx (e .node) hx (kindOf kindLoad) e (sceneOf s (e .node) (e .node)) (kindOf kindLoad .does (sceneOf s (e .node) (e .node)) e) (same-entries (e .node)) (same-listed (e .node)) (same-pending (e .node))
 
   -- 2
   pub store-writes : StoreWrites s e (e .node) (after kindStore s e (e .node))

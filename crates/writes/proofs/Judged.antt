@@ -1,6 +1,6 @@
 -- What an accepted step is: its event, its place and its needs hold, and it did what its row does; and a fact shown for each kind.
 use mathlib.Core.Path.{_≡_, refl, sym, _∙_}
-use mathlib.Core.Bool.{true, false, not, _&&_, _||_, false≢true}
+use mathlib.Core.Bool.{true, false, _&&_, _||_, false≢true}
 use mathlib.Core.Logic.{_≢_, _⊎_, inl, inr}
 use mathlib.Core.List.{List, [], _∷_}
 use Prim.Native.Nat.{ℕ, _<_, _≤_}
@@ -11,11 +11,13 @@ use lib.Dec.{eqb, leb, ltb}
 use Rattle.words.specs.Vocab.{all, choose}
 use Rattle.words.proofs.Facts.{both, all-at, either, by-test}
 use Rattle.rules.specs.Codes.{nodes, accepts}
-use Rattle.rules.specs.Tree.{parentOk, treeOk, goodTree, isChild, isLeaf}
+use Rattle.rules.specs.Cells.{node}
+use Rattle.rules.specs.Tree.{parentOk, treeOk, goodTree, isChild}
 use Rattle.rules.specs.Configuration.{configurationOk}
-use Rattle.rules.specs.Events.{otherFits, valueFits, placeFits, eventOk, placeOk}
-use Rattle.rules.specs.Table.{Kind, kinds, listed, numbered, noKind, isKind, kindOf}
-use Rattle.rules.specs.Step.{endAt, sceneAt, linkThere, turnOk, valueOf, nextOf, Refusal, firstOf, eventRefusals, refusals, answerOf, stepOf, onwardOf}
+use Rattle.rules.specs.Events.{otherFits, valueFits, eventOk, placeOk}
+use Rattle.rules.specs.Scenes.{sceneOf}
+use Rattle.rules.specs.Table.{Kind, kinds, listed, numbered, isKind, kindOf}
+use Rattle.rules.specs.Step.{endOf, doneBy, endAt, sceneAt, linkThere, turnOk, valueOf, nextOf, Refusal, firstOf, eventRefusals, refusals, answerOf, stepOf, onwardOf}
 use Rattle.rules.specs.declared.State.{State}
 use Rattle.rules.specs.declared.Event.{Event}
 use Rattle.rules.specs.declared.Answer.{Answer}
@@ -130,6 +132,13 @@ onward-taken s e h =
     let z = sym (number-of _ s e) ∙ h in
     let a = passes _ (eventRefusals s e) (λ z. omega arith) z in
     record { tree = not-false _ (a .0); taken = taken s e (a .1); next = given _ s e z .0 }
+
+-- whose link a kind acts on, and the configuration after it
+abbrev pub linkOf : Kind → State → Event → ℕ
+linkOf k s e = endOf (k .row .end) (node s (e .node)) (e .node) (e .other)
+
+abbrev pub done : Kind → State → Event → State
+done k s e = doneBy k s e (linkOf k s e) (sceneOf s (e .node) (linkOf k s e))
 
 -- a fact for each kind of a list
 pub data Every (P : Kind → Type 0) : List Kind → Type 0 where

@@ -6,16 +6,16 @@ use mathlib.Core.List.{List}
 use Prim.Native.Nat.{ℕ, _<_}
 use native.Mathlib.Decide.{ℕ-discrete}
 use native.Mathlib.Omega.{arith}
-use lib.ListN.{length, set, getD, length-set}
+use lib.ListN.{length, set, getD}
 use lib.Dec.{eqb}
 use Rattle.words.specs.Vocab.{any, choose}
 use Rattle.words.proofs.Facts.{any-same, choose-at, choose-off}
 use Rattle.rules.specs.Codes.{nodes, cells}
 use Rattle.rules.specs.Cells.{blankNode, blankLink, cell, rights, entry, toProbe, pending, node, link}
 use Rattle.rules.specs.With.{withPhase}
-use Rattle.rules.specs.Names.{memberIn, setsEmptyIn}
+use Rattle.rules.specs.Names.{memberIn}
 use Rattle.rules.specs.Scenes.{nameIn}
-use Rattle.rules.specs.Settle.{phaseAfter, settledPhase}
+use Rattle.rules.specs.Settle.{phaseAfter}
 use Rattle.rules.specs.Local.{held}
 use Rattle.rules.specs.Acquire.{purposeFor, probedFor}
 use Rattle.rules.specs.Probe.{probedBy}
@@ -28,7 +28,7 @@ use Rattle.rules.specs.declared.Scene.{Scene}
 use Rattle.rules.specs.declared.Event.{Event}
 use Rattle.rules.specs.declared.kinds.Probes.{Probes}
 use Rattle.rules.specs.declared.kinds.Probes.the-variants.{Stay, Held, Asked, Capped}
-use Rattle.writes.proofs.Put.{Put, put, Row, row-put, row-fill, row-over, row-as}
+use Rattle.writes.proofs.Put.{Put, put, Row, row-put, row-over, row-as}
 
 -- The arrays of a State are as long as its type says.
 pub record Sized (s : State) : Type 0 where

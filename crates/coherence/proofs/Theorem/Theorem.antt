@@ -19,15 +19,14 @@ use Rattle.rules.specs.Scenes.{sceneOf}
 use Rattle.rules.specs.Table.{Kind, kinds, numbered, kindOf}
 use Rattle.rules.specs.Events.{otherFits, placeFits, placeOk}
 use Rattle.rules.specs.Local.{loadNeeds}
-use Rattle.rules.specs.Step.{endOf, linkThere, doneBy, nextOf, valueOf, resetOf, stepOf}
+use Rattle.rules.specs.Step.{endOf, linkThere, nextOf, valueOf, resetOf, stepOf}
 use Rattle.rules.specs.declared.State.{State}
 use Rattle.rules.specs.declared.Event.{Event}
 use Rattle.rules.specs.declared.Answer.{Answer}
 use Rattle.writes.proofs.Writes.{Sized}
-use Rattle.writes.proofs.Effects.{store-writes, load-miss-writes, store-miss-writes, evict-writes, send-acquire-writes, take-acquire-writes, send-probe-writes, take-probe-writes, send-probe-ack-writes, take-probe-ack-writes, take-grant-writes, send-grant-ack-writes, send-grant-writes, take-grant-ack-writes, send-release-writes, take-release-writes, send-release-ack-writes, take-release-ack-writes}
+use Rattle.writes.proofs.Effects.{load-writes, store-writes, load-miss-writes, store-miss-writes, evict-writes, send-acquire-writes, take-acquire-writes, send-probe-writes, take-probe-writes, send-probe-ack-writes, take-probe-ack-writes, take-grant-writes, send-grant-ack-writes, send-grant-writes, take-grant-ack-writes, send-release-writes, take-release-writes, send-release-ack-writes, take-release-ack-writes}
 use Rattle.writes.proofs.Needs.{child, load-needs, store-needs, load-miss-needs, store-miss-needs, evict-needs, send-acquire-needs, take-acquire-needs, send-probe-needs, take-probe-needs, send-probe-ack-needs, take-probe-ack-needs, take-grant-needs, send-grant-ack-needs, send-grant-needs, take-grant-ack-needs, send-release-needs, take-release-needs, send-release-ack-needs, take-release-ack-needs}
-use Rattle.writes.proofs.Judged.{known, step-taken, Every, end, each, by-kind}
-use Rattle.closed.proofs.Local.{load-writes}
+use Rattle.writes.proofs.Judged.{linkOf, done, known, step-taken, Every, end, each, by-kind}
 use Rattle.closed.proofs.Closed.{closed}
 use Rattle.coherence.specs.Reached.{Reached, start, next, lastOf}
 use Rattle.coherence.specs.Coherent.{Coherent}
@@ -53,13 +52,6 @@ use Rattle.coherence.proofs.Steps.TakeRelease.{take-release-keeps}
 use Rattle.coherence.proofs.Steps.SendReleaseAck.{send-release-ack-keeps}
 use Rattle.coherence.proofs.Steps.TakeReleaseAck.{take-release-ack-keeps}
 use Rattle.coherence.proofs.Theorem.Reset.{start-inv}
-
--- the link that the kind acts on, and the configuration after it
-abbrev linkOf : Kind → State → Event → ℕ
-linkOf k s e = endOf (k .row .end) (node s (e .node)) (e .node) (e .other)
-
-abbrev done : Kind → State → Event → State
-done k s e = doneBy k s e (linkOf k s e) (sceneOf s (e .node) (linkOf k s e))
 
 -- a place below the root
 below-root : (x : ℕ) → not (eqb x 0) ≡ true → 0 < x
@@ -96,7 +88,7 @@ module _ (s : State) (v : ℕ) (e : Event) (i : Inv s v) (inside : e .node < s .
   kinds-keep : Every Keeps kinds
   unfolding placeFits otherFits linkThere endOf numbered choose
   kinds-keep =
-      each (λ q p o j n c. other _ q refl (load-keeps i inside _ (load-writes s z e bound) c))
+      each (λ q p o j n c. other _ q refl (load-keeps e i inside _ (load-writes s z e bound) c))
       (each (λ q p o j n c. stores q (store-keeps i e inside (store-needs s _ n) _ (store-writes s z e bound) c))
       (each (λ q p o j n c. other _ q refl (miss-keeps i inside (load-miss-needs s _ n .quiet) _ toLoad (load-miss-writes s z e bound) c))
       (each (λ q p o j n c. other _ q refl (miss-keeps i inside (store-miss-needs s _ n .quiet) _ toStore (store-miss-writes s z e bound) c))
