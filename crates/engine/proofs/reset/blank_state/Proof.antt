@@ -7,4 +7,4 @@ blank-state-spec =
     tie.close (tie.spec
     (λ c κs. search needs)
     (λ c κs. search needs)
-    (λ c. cc))
+    (λ c. rw (c .blank-link .ensures, c .before .blank-node .ensures)))
