@@ -1,5 +1,6 @@
+use mathlib.Core.Path.{refl}
 use Rattle.rules.specs.Messages.{entryFor}
-use Rattle.choices.proofs.Cases.{cases}
+use Rattle.choices.proofs.Cases.{down-empty, down-grant-t, down-grant-data-t, down-grant-data-b, down-release-ack, down-outside}
 use Rattle.choices.proofs.messages.entry_for.Statement.{statement}
 use Rattle.choices.proofs.messages.entry_for.Tie as tie
 
@@ -7,9 +8,9 @@ pub entry-for-spec : {M : Type 1} → statement M
 unfolding entryFor
 entry-for-spec =
     tie.close (tie.spec
-    (λ c. search cases)
-    (λ c. search cases)
-    (λ c. search cases)
-    (λ c. search cases)
-    (λ c. search cases)
-    (λ c. search cases))
+    (λ c. down-empty _ _ _ (c .match .keys1) refl)
+    (λ c. down-grant-t _ _ _ (c .match .keys2) refl)
+    (λ c. down-grant-data-t _ _ _ (c .match .keys3) refl)
+    (λ c. down-grant-data-b _ _ _ (c .match .keys4) refl)
+    (λ c. down-release-ack _ _ _ (c .match .keys5) refl)
+    (λ c. down-outside _ _ _ (c .match .rest) refl))

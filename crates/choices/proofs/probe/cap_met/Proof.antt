@@ -1,5 +1,6 @@
+use mathlib.Core.Path.{refl}
 use Rattle.rules.specs.Probe.{capMet}
-use Rattle.choices.proofs.Cases.{cases}
+use Rattle.choices.proofs.Cases.{cap-none, cap-cap-b, cap-cap-n, cap-outside}
 use Rattle.choices.proofs.probe.cap_met.Statement.{statement}
 use Rattle.choices.proofs.probe.cap_met.Tie as tie
 
@@ -7,7 +8,7 @@ pub cap-met-spec : {M : Type 1} → statement M
 unfolding capMet
 cap-met-spec =
     tie.close (tie.spec
-    (λ c. search cases)
-    (λ c. search cases)
-    (λ c. search cases)
-    (λ c. search cases))
+    (λ c. cap-none _ _ _ (c .match .keys1) refl)
+    (λ c. cap-cap-b _ _ _ (c .match .keys2) refl)
+    (λ c. cap-cap-n _ _ _ (c .match .keys3) refl)
+    (λ c. cap-outside _ _ _ (c .match .rest) refl))

@@ -1,5 +1,6 @@
+use mathlib.Core.Path.{refl}
 use Rattle.rules.specs.Probe.{probedBy}
-use Rattle.choices.proofs.Cases.{cases}
+use Rattle.choices.proofs.Cases.{cap-none, cap-cap-b, cap-cap-n, cap-outside}
 use Rattle.choices.proofs.probe.probed_by.Statement.{statement}
 use Rattle.choices.proofs.probe.probed_by.Tie as tie
 
@@ -7,7 +8,7 @@ pub probed-by-spec : {M : Type 1} → statement M
 unfolding probedBy
 probed-by-spec =
     tie.close (tie.spec
-    (λ c. search cases)
-    (λ c. search cases)
-    (λ c. search cases)
-    (λ c. search cases))
+    (λ c. cap-none _ _ _ (c .match .keys1) refl)
+    (λ c. cap-cap-b _ _ _ (c .match .keys2) refl)
+    (λ c. cap-cap-n _ _ _ (c .match .keys3) refl)
+    (λ c. cap-outside _ _ _ (c .match .rest) refl))
