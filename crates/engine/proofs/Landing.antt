@@ -1,23 +1,21 @@
 -- What the code of the step meets: the parts of a configuration after an event are those of its step.
-use mathlib.Core.Path.{_≡_, refl, sym, _∙_, ap}
-use mathlib.Core.Bool.{Bool, true, false, not, _&&_}
+use mathlib.Core.Path.{_≡_, refl}
+use mathlib.Core.Bool.{Bool, true, false, not}
 use mathlib.Core.List.{List, [], _∷_}
 use Prim.Native.Nat.{ℕ, _<_, _≤_}
 use native.Mathlib.Omega.{arith}
 use borrow.Author.Tests.{eq-eqb, ne-eqb, le-leb, lt-leb}
-use lib.ListN.{set}
-use lib.Dec.{eqb, leb}
+use lib.Dec.{leb}
 use Rattle.words.specs.Vocab.{choose}
 use Rattle.words.proofs.Laws.{tests}
 use Rattle.words.proofs.Facts.{choose-true, choose-false}
-use Rattle.rules.specs.Codes.{nodes, rightsN, nameN, accepts}
-use Rattle.rules.specs.Cells.{cell}
-use Rattle.rules.specs.Names.{nameOf, setsEmptyIn}
+use Rattle.rules.specs.Codes.{rightsN, nameN, accepts}
+use Rattle.rules.specs.Names.{nameOf}
 use Rattle.rules.specs.Table.{kindOf}
-use Rattle.rules.specs.Step.{probedIn, settledNode, Refusal, refusal, firstOf}
+use Rattle.rules.specs.Step.{Refusal, refusal, firstOf}
 use Rattle.rules.specs.declared.Event.{Event}
 use Rattle.rules.specs.declared.kinds.Row.{Row}
-use Rattle.engine.specs.Parts.{indexOf, endIn, sceneIn, numberIn, Parts, becomes, staysAs, partsBy, partsAt, partsIn, Laid, Landed}
+use Rattle.engine.specs.Parts.{indexOf, endIn, sceneIn, numberIn, becomes, staysAs, partsBy, partsAt, partsIn, Laid, Landed}
 use Rattle.engine.specs.declared.parts.Acted.{Acted}
 use Rattle.rules.specs.declared.Node.{Node}
 use Rattle.rules.specs.declared.Link.{Link}

@@ -12,22 +12,22 @@ use lib.Seq.{set-getD}
 use lib.Dec.{eqb, leb, ltb}
 use Rattle.words.specs.Vocab.{choose}
 use Rattle.words.proofs.Laws.{tests}
-use Rattle.words.proofs.Facts.{both, by-test, decided, choose-true, choose-false}
+use Rattle.words.proofs.Facts.{both, decided, choose-true, choose-false}
 use Rattle.rules.specs.Codes.{nodes, accepts, badTree, notAConfiguration, badEvent, wrongPlace, outOfTurn}
-use Rattle.rules.specs.Cells.{blankNode, blankLink, node, link}
+use Rattle.rules.specs.Cells.{node, link}
 use Rattle.rules.specs.Tree.{treeOk, goodTree, childBy}
 use Rattle.rules.specs.Configuration.{configurationOk}
 use Rattle.rules.specs.Scenes.{sceneOf}
 use Rattle.rules.specs.Table.{isKind, kindOf}
-use Rattle.rules.specs.Events.{otherFits, valueFits, placeFits, eventOk, placeOk}
-use Rattle.rules.specs.Step.{accepted, refused, endOf, linkThere, endAt, sceneAt, turnOk, effectOf, nextOf, valueOf, refusal, firstOf, eventRefusals, answerOf, stepOf, onwardOf}
+use Rattle.rules.specs.Events.{valueFits, eventOk, placeOk}
+use Rattle.rules.specs.Step.{accepted, refused, endOf, linkThere, endAt, turnOk, effectOf, nextOf, valueOf, refusal, firstOf, eventRefusals, answerOf, stepOf, onwardOf}
 use Rattle.rules.specs.declared.State.{State}
 use Rattle.rules.specs.declared.Event.{Event}
 use Rattle.rules.specs.declared.Node.{Node}
 use Rattle.rules.specs.declared.Answer.{Answer}
 use Rattle.rules.specs.declared.kinds.End.{End}
 use Rattle.rules.specs.declared.kinds.End.the-variants.{Own, Named, Requester, Noted}
-use Rattle.engine.specs.Parts.{indexOf, endIn, sceneIn, eventIn, placeIn, turnIn, numberIn, movedOf, Parts, becomes, staysAs, partsBy, partsAt, partsIn, Landed}
+use Rattle.engine.specs.Parts.{indexOf, endIn, numberIn, movedOf, Parts, staysAs, partsBy, partsAt, partsIn, Landed}
 use Rattle.engine.specs.declared.parts.Acted.{Acted}
 
 -- the parts of a configuration, put back at x and j

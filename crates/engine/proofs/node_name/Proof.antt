@@ -1,4 +1,3 @@
-use Rattle.rules.specs.Names.{someIn, nameOf}
 use borrow.Author.Needs.{needs}
 use Rattle.engine.proofs.node_name.Statement.{statement}
 use Rattle.engine.proofs.node_name.Tie as tie

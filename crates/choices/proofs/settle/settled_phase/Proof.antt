@@ -1,6 +1,5 @@
 use Rattle.rules.specs.Settle.{settledPhase}
 use borrow.Author.Needs.{needs}
-use Rattle.choices.proofs.Cases.{cases}
 use Rattle.choices.proofs.settle.settled_phase.Statement.{statement}
 use Rattle.choices.proofs.settle.settled_phase.Tie as tie
 

@@ -8,7 +8,6 @@ use mathlib.Core.Logic.{⊎-elim}
 use native.Mathlib.Omega.{arith}
 use borrow.Author.Needs.{needs}
 use lib.ListN.{length, take, drop}
-use Rattle.rules.specs.declared.State.{State}
 use Rattle.engine.proofs.Moving.{moves, onward-good}
 use Rattle.octets.specs.Prefixed.{window}
 use Rattle.trails.specs.Trail.{recordSize, recordAt, recordOk, eventsFrom}
