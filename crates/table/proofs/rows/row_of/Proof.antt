@@ -1,7 +1,7 @@
 use borrow.Author.Needs.{needs}
 use Rattle.words.specs.Vocab.{choose}
 use Rattle.rules.specs.Table.{numbered}
-use Rattle.table.proofs.Arms.{row-at, no-kind}
+use Rattle.choices.proofs.Arms.{row-at, no-kind}
 use Rattle.table.proofs.rows.row_of.Statement.{statement}
 use Rattle.table.proofs.rows.row_of.Tie as tie
 
