@@ -86,7 +86,7 @@ fn turn_ok(
     let child = is_child(count, parents, x, j);
     let end = row.end;
     let there = link_there(end, child);
-    let needs = table::needs_hold(v, ev);
+    let needs = needs::needs_hold(v, ev);
     there & needs
 }
 

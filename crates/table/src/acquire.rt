@@ -1,25 +1,13 @@
 // Kinds 6 and 7: an Acquire goes up (document 01, "Events").
 ghost use mathlib.Core.Path.{_≡_};
-ghost use Rattle.rules.specs.Acquire.{sendAcquireDoes, sendAcquireNeeds, takeAcquireDoes, takeAcquireNeeds};
-use choices::acquire::acquire_fits;
+ghost use Rattle.rules.specs.Acquire.{sendAcquireDoes, takeAcquireDoes};
 use choices::acquire::acquire_for;
-use choices::acquire::asks_from;
 use choices::acquire::purpose_for;
 use rules::Scene;
 use rules::codes::Message;
 use rules::codes::Phase;
 
-// 6 send Acquire | Ask, A empty; load: rights N; store: N or B
-pub fn send_acquire_needs(v: Scene) -> bool
-    ensures { λ r. ⌜ r ≡ sendAcquireNeeds v ⌝ }
-{
-    let m = v.node;
-    let l = v.link;
-    let asks = asks_from(m.purpose, v.rights);
-    (m.phase == Phase::ASK) & (l.a == Message::EMPTY) & asks
-}
-
-// | AcquireB for load, AcquireT from N, AcquireU from B; Wait
+// 6 send Acquire | AcquireB for load, AcquireT from N, AcquireU from B; Wait
 pub fn send_acquire_does(v: Scene) -> Scene
     ensures { λ r. ⌜ r ≡ sendAcquireDoes v ⌝ }
 {
@@ -34,17 +22,7 @@ pub fn send_acquire_does(v: Scene) -> Scene
     w
 }
 
-// 7 take Acquire | A full, main and probe idle, sets empty; AcquireB/T: child's entry None; AcquireU: not Trunk
-pub fn take_acquire_needs(v: Scene) -> bool
-    ensures { λ r. ⌜ r ≡ takeAcquireNeeds v ⌝ }
-{
-    let m = v.node;
-    let l = v.link;
-    let fits = acquire_fits(l.a, v.entry);
-    (l.a != Message::EMPTY) & (m.phase == Phase::IDLE) & !m.probe & v.still & fits
-}
-
-// | empties A, purpose load for B, store for T/U, requester; to-probe: ..; settle
+// 7 take Acquire | empties A, purpose load for B, store for T/U, requester; to-probe: ..; settle
 pub fn take_acquire_does(v: Scene, requester: u8) -> Scene
     ensures { λ r. ⌜ r ≡ takeAcquireDoes v requester ⌝ }
 {

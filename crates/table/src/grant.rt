@@ -1,13 +1,10 @@
 // Kinds 12 to 15: a Grant goes down and its GrantAck comes up (document 01, "Events").
 ghost use mathlib.Core.Path.{_≡_};
-ghost use Rattle.rules.specs.Grant.{confirmed, sendGrantAckDoes, sendGrantAckNeeds, sendGrantDoes, sendGrantNeeds, takeGrantAckDoes, takeGrantAckNeeds, takeGrantDoes, takeGrantNeeds};
+ghost use Rattle.rules.specs.Grant.{confirmed, sendGrantAckDoes, sendGrantDoes, takeGrantAckDoes, takeGrantDoes};
 use crate::scenes::idled;
-use crate::scenes::name_in;
-use choices::grant::grant_fits;
 use choices::grant::grant_for;
 use choices::grant::grant_value;
 use choices::grant::installed;
-use choices::grant::may_grant;
 use choices::messages::entry_for;
 use choices::messages::granted_rights;
 use rules::Node;
@@ -15,17 +12,7 @@ use rules::Scene;
 use rules::codes::Message;
 use rules::codes::Phase;
 
-// 12 take Grant | Wait, probe idle; load: N with GrantDataB or GrantDataT; store: B with GrantT or N with GrantDataT
-pub fn take_grant_needs(v: Scene) -> bool
-    ensures { λ r. ⌜ r ≡ takeGrantNeeds v ⌝ }
-{
-    let m = v.node;
-    let l = v.link;
-    let fits = grant_fits(m.purpose, v.rights, l.d);
-    (m.phase == Phase::WAIT) & !m.probe & fits
-}
-
-// | empties D; B for GrantDataB, else Tip; clean; data installed; Confirm
+// 12 take Grant | empties D; B for GrantDataB, else Tip; clean; data installed; Confirm
 pub fn take_grant_does(v: Scene) -> Scene
     ensures { λ r. ⌜ r ≡ takeGrantDoes v ⌝ }
 {
@@ -45,15 +32,6 @@ pub fn take_grant_does(v: Scene) -> Scene
     w
 }
 
-// 13 send GrantAck | Confirm, E empty
-pub fn send_grant_ack_needs(v: Scene) -> bool
-    ensures { λ r. ⌜ r ≡ sendGrantAckNeeds v ⌝ }
-{
-    let m = v.node;
-    let l = v.link;
-    (m.phase == Phase::CONFIRM) & (l.e == Message::EMPTY)
-}
-
 // "a leaf goes Idle, another Give"
 fn confirmed(leaf: bool, m: Node) -> Node
     ensures { λ r. ⌜ r ≡ confirmed leaf m ⌝ }
@@ -66,7 +44,7 @@ fn confirmed(leaf: bool, m: Node) -> Node
     t
 }
 
-// | a leaf goes Idle, another Give
+// 13 send GrantAck | a leaf goes Idle, another Give
 pub fn send_grant_ack_does(v: Scene) -> Scene
     ensures { λ r. ⌜ r ≡ sendGrantAckDoes v ⌝ }
 {
@@ -79,19 +57,7 @@ pub fn send_grant_ack_does(v: Scene) -> Scene
     w
 }
 
-// 14 send Grant | Give, requester's D empty; load 0: named B, TT, TB; load 1: TT; store 1: Tip, other entries None, the
-// requester's not Trunk
-pub fn send_grant_needs(v: Scene, choice: u8) -> bool
-    ensures { λ r. ⌜ r ≡ sendGrantNeeds v choice ⌝ }
-{
-    let m = v.node;
-    let l = v.link;
-    let name = name_in(v);
-    let may = may_grant(m.purpose, choice, name, v.rights, v.alone, v.entry);
-    (m.phase == Phase::GIVE) & (l.d == Message::EMPTY) & may
-}
-
-// | load 0: GrantDataB, entry Branch; load 1: GrantDataT, Trunk; store: GrantT if entry Branch, else GrantDataT, then Trunk; Await
+// 14 send Grant | load 0: GrantDataB, entry Branch; load 1: GrantDataT, Trunk; store: GrantT if entry Branch, else GrantDataT, then Trunk; Await
 pub fn send_grant_does(v: Scene, choice: u8) -> Scene
     ensures { λ r. ⌜ r ≡ sendGrantDoes v choice ⌝ }
 {
@@ -110,16 +76,7 @@ pub fn send_grant_does(v: Scene, choice: u8) -> Scene
     w
 }
 
-// 15 take GrantAck | Await, requester's E full
-pub fn take_grant_ack_needs(v: Scene) -> bool
-    ensures { λ r. ⌜ r ≡ takeGrantAckNeeds v ⌝ }
-{
-    let m = v.node;
-    let l = v.link;
-    (m.phase == Phase::AWAIT) & (l.e != Message::EMPTY)
-}
-
-// | empties E; Idle
+// 15 take GrantAck | empties E; Idle
 pub fn take_grant_ack_does(v: Scene) -> Scene
     ensures { λ r. ⌜ r ≡ takeGrantAckDoes v ⌝ }
 {

@@ -1,12 +1,9 @@
 // Kinds 16 to 19: a Release goes up and its ReleaseAck comes down (document 01, "Events").
 ghost use mathlib.Core.Path.{_≡_};
-ghost use Rattle.rules.specs.Release.{sendReleaseAckDoes, sendReleaseAckNeeds, sendReleaseDoes, sendReleaseNeeds, takeReleaseAckDoes, takeReleaseAckNeeds, takeReleaseDoes, takeReleaseNeeds};
+ghost use Rattle.rules.specs.Release.{sendReleaseAckDoes, sendReleaseDoes, takeReleaseAckDoes, takeReleaseDoes};
 use crate::scenes::data_taken;
 use crate::scenes::idled;
-use choices::messages::is_release;
 use choices::probe::carried;
-use choices::probe::data_fits;
-use choices::release::awaits;
 use choices::release::release_for;
 use rules::Scene;
 use rules::codes::Child;
@@ -15,20 +12,7 @@ use rules::codes::Message;
 use rules::codes::Phase;
 use rules::codes::Rights;
 
-// 16 send Release | LetGo, release idle, C empty, entries None, not N
-pub fn send_release_needs(v: Scene) -> bool
-    ensures { λ r. ⌜ r ≡ sendReleaseNeeds v ⌝ }
-{
-    let m = v.node;
-    let l = v.link;
-    (m.phase == Phase::LET_GO)
-        & (m.release == Child::NONE)
-        & (l.c == Message::EMPTY)
-        & v.bare
-        & (v.rights != Rights::N)
-}
-
-// | ReleaseData exactly if dirty; rights N; Leaving
+// 16 send Release | ReleaseData exactly if dirty; rights N; Leaving
 pub fn send_release_does(v: Scene) -> Scene
     ensures { λ r. ⌜ r ≡ sendReleaseDoes v ⌝ }
 {
@@ -49,19 +33,7 @@ pub fn send_release_does(v: Scene) -> Scene
     w
 }
 
-// 17 take Release | C holds one, release idle, entry not None, not in Await for this child; data only from Trunk
-pub fn take_release_needs(v: Scene, child: u8) -> bool
-    ensures { λ r. ⌜ r ≡ takeReleaseNeeds v child ⌝ }
-{
-    let m = v.node;
-    let l = v.link;
-    let releases = is_release(l.c);
-    let granting = awaits(m.phase, m.requester, child);
-    let fits = data_fits(l.c, v.entry);
-    releases & (m.release == Child::NONE) & (v.entry != Entry::NONE) & !granting & fits
-}
-
-// | empties C; entry None; child leaves to-probe, not pending; data: value set, dirty; child noted; settle
+// 17 take Release | empties C; entry None; child leaves to-probe, not pending; data: value set, dirty; child noted; settle
 pub fn take_release_does(v: Scene, child: u8) -> Scene
     ensures { λ r. ⌜ r ≡ takeReleaseDoes v child ⌝ }
 {
@@ -79,16 +51,7 @@ pub fn take_release_does(v: Scene, child: u8) -> Scene
     w
 }
 
-// 18 send ReleaseAck | release open, child's D empty
-pub fn send_release_ack_needs(v: Scene) -> bool
-    ensures { λ r. ⌜ r ≡ sendReleaseAckNeeds v ⌝ }
-{
-    let m = v.node;
-    let l = v.link;
-    (m.release != Child::NONE) & (l.d == Message::EMPTY)
-}
-
-// | closes
+// 18 send ReleaseAck | closes
 pub fn send_release_ack_does(v: Scene) -> Scene
     ensures { λ r. ⌜ r ≡ sendReleaseAckDoes v ⌝ }
 {
@@ -103,16 +66,7 @@ pub fn send_release_ack_does(v: Scene) -> Scene
     w
 }
 
-// 19 take ReleaseAck | Leaving, D holds it
-pub fn take_release_ack_needs(v: Scene) -> bool
-    ensures { λ r. ⌜ r ≡ takeReleaseAckNeeds v ⌝ }
-{
-    let m = v.node;
-    let l = v.link;
-    (m.phase == Phase::LEAVING) & (l.d == Message::RELEASE_ACK)
-}
-
-// | empties D; Idle
+// 19 take ReleaseAck | empties D; Idle
 pub fn take_release_ack_does(v: Scene) -> Scene
     ensures { λ r. ⌜ r ≡ takeReleaseAckDoes v ⌝ }
 {

@@ -1,6 +1,11 @@
 // The event table: what each kind's row says beside its needs and its effect (document 01, "Events").
 ghost use mathlib.Core.Path.{_≡_};
 ghost use Rattle.rules.specs.Table.{isKind, kindOf, row};
+ghost use Rattle.rules.specs.declared.kinds.Other.the-variants.{NoOther};
+ghost use Rattle.rules.specs.declared.kinds.Value.the-variants.{NoValue};
+ghost use Rattle.rules.specs.declared.kinds.End.the-variants.{Own};
+ghost use Rattle.rules.specs.declared.kinds.Probes.the-variants.{Stay};
+ghost use Rattle.rules.specs.declared.kinds.Settles.the-variants.{Never};
 use rules::Event;
 use rules::kinds::End;
 use rules::kinds::Other;
@@ -20,6 +25,20 @@ fn row(place: Place, other: Other, value: Value, end: End, probes: Probes, settl
         end,
         probes,
         settles,
+    }
+}
+
+// The row of a kind that says no more than its place.
+fn plain(place: Place) -> Row
+    ensures { λ r. ⌜ r ≡ row place NoOther NoValue Own Stay Never ⌝ }
+{
+    Row {
+        place,
+        other: Other::NoOther,
+        value: Value::NoValue,
+        end: End::Own,
+        probes: Probes::Stay,
+        settles: Settles::Never,
     }
 }
 
@@ -56,14 +75,7 @@ pub fn row_of(kind: u8) -> Row
     ensures { λ r. ⌜ r ≡ kindOf kind .row ⌝ }
 {
     match kind {
-        Event::LOAD => row(
-            Place::AtLeaf,
-            Other::NoOther,
-            Value::NoValue,
-            End::Own,
-            Probes::Stay,
-            Settles::Never,
-        ),
+        Event::LOAD => plain(Place::AtLeaf),
         Event::STORE => row(
             Place::AtLeaf,
             Other::NoOther,
@@ -72,22 +84,8 @@ pub fn row_of(kind: u8) -> Row
             Probes::Stay,
             Settles::Never,
         ),
-        Event::LOAD_MISS => row(
-            Place::AtLeaf,
-            Other::NoOther,
-            Value::NoValue,
-            End::Own,
-            Probes::Stay,
-            Settles::Never,
-        ),
-        Event::STORE_MISS => row(
-            Place::AtLeaf,
-            Other::NoOther,
-            Value::NoValue,
-            End::Own,
-            Probes::Stay,
-            Settles::Never,
-        ),
+        Event::LOAD_MISS => plain(Place::AtLeaf),
+        Event::STORE_MISS => plain(Place::AtLeaf),
         Event::EVICT => row(
             Place::BelowRoot,
             Other::NoOther,
@@ -96,14 +94,7 @@ pub fn row_of(kind: u8) -> Row
             Probes::Held,
             Settles::Anew,
         ),
-        Event::SEND_ACQUIRE => row(
-            Place::BelowRoot,
-            Other::NoOther,
-            Value::NoValue,
-            End::Own,
-            Probes::Stay,
-            Settles::Never,
-        ),
+        Event::SEND_ACQUIRE => plain(Place::BelowRoot),
         Event::TAKE_ACQUIRE => row(
             Place::Anywhere,
             Other::AChild,
@@ -128,14 +119,7 @@ pub fn row_of(kind: u8) -> Row
             Probes::Capped,
             Settles::Never,
         ),
-        Event::SEND_PROBE_ACK => row(
-            Place::BelowRoot,
-            Other::NoOther,
-            Value::NoValue,
-            End::Own,
-            Probes::Stay,
-            Settles::Never,
-        ),
+        Event::SEND_PROBE_ACK => plain(Place::BelowRoot),
         Event::TAKE_PROBE_ACK => row(
             Place::Anywhere,
             Other::AChild,
@@ -144,22 +128,8 @@ pub fn row_of(kind: u8) -> Row
             Probes::Stay,
             Settles::Again,
         ),
-        Event::TAKE_GRANT => row(
-            Place::BelowRoot,
-            Other::NoOther,
-            Value::NoValue,
-            End::Own,
-            Probes::Stay,
-            Settles::Never,
-        ),
-        Event::SEND_GRANT_ACK => row(
-            Place::BelowRoot,
-            Other::NoOther,
-            Value::NoValue,
-            End::Own,
-            Probes::Stay,
-            Settles::Never,
-        ),
+        Event::TAKE_GRANT => plain(Place::BelowRoot),
+        Event::SEND_GRANT_ACK => plain(Place::BelowRoot),
         Event::SEND_GRANT => row(
             Place::AboveLeaf,
             Other::AChoice,
@@ -176,14 +146,7 @@ pub fn row_of(kind: u8) -> Row
             Probes::Stay,
             Settles::Never,
         ),
-        Event::SEND_RELEASE => row(
-            Place::BelowRoot,
-            Other::NoOther,
-            Value::NoValue,
-            End::Own,
-            Probes::Stay,
-            Settles::Never,
-        ),
+        Event::SEND_RELEASE => plain(Place::BelowRoot),
         Event::TAKE_RELEASE => row(
             Place::Anywhere,
             Other::AChild,
@@ -200,21 +163,7 @@ pub fn row_of(kind: u8) -> Row
             Probes::Stay,
             Settles::Never,
         ),
-        Event::TAKE_RELEASE_ACK => row(
-            Place::BelowRoot,
-            Other::NoOther,
-            Value::NoValue,
-            End::Own,
-            Probes::Stay,
-            Settles::Never,
-        ),
-        _ => row(
-            Place::Anywhere,
-            Other::NoOther,
-            Value::NoValue,
-            End::Own,
-            Probes::Stay,
-            Settles::Never,
-        ),
+        Event::TAKE_RELEASE_ACK => plain(Place::BelowRoot),
+        _ => plain(Place::Anywhere),
     }
 }

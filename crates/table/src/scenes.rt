@@ -1,29 +1,13 @@
 // What several rows say of a node, as specs/Scenes of crate rules has it.
 ghost use mathlib.Core.Path.{_≡_};
-ghost use Rattle.rules.specs.Scenes.{allIdle, dataTaken, idled, nameIn, valueAt};
+ghost use Rattle.rules.specs.Scenes.{dataTaken, idled, valueAt};
 use choices::messages::installs;
-use choices::name::name_of;
 use rules::Link;
 use rules::Node;
-use rules::Scene;
 use rules::codes::Child;
 use rules::codes::Phase;
 use rules::codes::Purpose;
 use rules::codes::Rights;
-
-// The name of the node.
-pub fn name_in(v: Scene) -> u8
-    ensures { λ r. ⌜ r ≡ nameIn v ⌝ }
-{
-    name_of(v.rights, v.trunk, v.branch)
-}
-
-// "all three transactions idle"
-pub fn all_idle(m: Node) -> bool
-    ensures { λ r. ⌜ r ≡ allIdle m ⌝ }
-{
-    (m.phase == Phase::IDLE) & !m.probe & (m.release == Child::NONE)
-}
 
 // "Idle clears purpose and requester."
 pub fn idled(m: Node) -> Node

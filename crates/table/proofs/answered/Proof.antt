@@ -1,7 +1,7 @@
 use mathlib.Core.Path.{refl}
 use Rattle.words.specs.Vocab.{choose}
 use Rattle.rules.specs.Table.{numbered}
-use Rattle.table.proofs.Arms.{says-at, no-kind}
+use Rattle.choices.proofs.Arms.{says-at, no-kind}
 use Rattle.table.proofs.answered.Statement.{statement}
 use Rattle.table.proofs.answered.Tie as tie
 

@@ -2,7 +2,7 @@ use borrow.Author.Needs.{needs}
 use mathlib.Core.Path.{refl}
 use Rattle.words.specs.Vocab.{choose}
 use Rattle.rules.specs.Table.{numbered}
-use Rattle.table.proofs.Arms.{does-at, no-kind}
+use Rattle.choices.proofs.Arms.{does-at, no-kind}
 use Rattle.table.proofs.done.Statement.{statement}
 use Rattle.table.proofs.done.Tie as tie
 

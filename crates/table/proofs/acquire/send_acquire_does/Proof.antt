@@ -8,4 +8,4 @@ unfolding sendAcquireDoes
 send-acquire-does-spec =
     tie.close (tie.spec
     (λ c κs. search needs)
-    (λ c. cc))
+    (λ c. rw (c .acquire-for .ensures)))

@@ -8,4 +8,4 @@ unfolding takeAcquireDoes
 take-acquire-does-spec =
     tie.close (tie.spec
     (λ c κs. search needs)
-    (λ c. cc))
+    (λ c. rw (c .purpose-for .ensures)))

@@ -9,4 +9,4 @@ take-grant-does-spec =
     tie.close (tie.spec
     (λ c κs. search needs)
     (λ c κs. search needs)
-    (λ c. cc))
+    (λ c. rw (c .before .granted-rights .ensures, c .installed .ensures)))

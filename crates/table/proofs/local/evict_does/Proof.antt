@@ -1,3 +1,4 @@
+use mathlib.Core.Path.{refl}
 use Rattle.rules.specs.Local.{evictDoes}
 use Rattle.table.proofs.local.evict_does.Statement.{statement}
 use Rattle.table.proofs.local.evict_does.Tie as tie
@@ -6,4 +7,4 @@ pub evict-does-spec : {M : Type 1} → statement M
 unfolding evictDoes
 evict-does-spec =
     tie.close (tie.spec
-    (λ c. cc))
+    (λ c. refl))

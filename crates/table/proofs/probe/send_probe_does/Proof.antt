@@ -8,4 +8,4 @@ unfolding sendProbeDoes
 send-probe-does-spec =
     tie.close (tie.spec
     (λ c κs. search needs)
-    (λ c. cc))
+    (λ c. rw (c .cap-for .ensures)))

@@ -1,3 +1,4 @@
+use mathlib.Core.Path.{refl}
 use Rattle.rules.specs.Probe.{takeProbeDoes}
 use Rattle.table.proofs.probe.take_probe_does.Statement.{statement}
 use Rattle.table.proofs.probe.take_probe_does.Tie as tie
@@ -6,4 +7,4 @@ pub take-probe-does-spec : {M : Type 1} → statement M
 unfolding takeProbeDoes
 take-probe-does-spec =
     tie.close (tie.spec
-    (λ c. cc))
+    (λ c. refl))

@@ -11,4 +11,4 @@ send-release-does-spec =
     tie.close (tie.spec
     (λ c κs. search needs)
     (λ c κs. search needs)
-    (λ c. cc))
+    (λ c. rw (c .before .release-for .ensures, c .carried .ensures)))

@@ -8,4 +8,4 @@ unfolding takeReleaseDoes
 take-release-does-spec =
     tie.close (tie.spec
     (λ c κs. search needs)
-    (λ c. cc))
+    (λ c. rw (c .data-taken .ensures)))

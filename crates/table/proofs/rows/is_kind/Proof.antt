@@ -1,6 +1,6 @@
 use mathlib.Core.Path.{refl, sym}
 use Rattle.rules.specs.Table.{listed}
-use Rattle.table.proofs.Arms.{is-at, unlisted}
+use Rattle.choices.proofs.Arms.{is-at, unlisted}
 use Rattle.table.proofs.rows.is_kind.Statement.{statement}
 use Rattle.table.proofs.rows.is_kind.Tie as tie
 
