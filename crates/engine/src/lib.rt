@@ -1,58 +1,18 @@
 // The step of document 01, computed: "the first number that applies is given and none otherwise". Every public function is
 // total and promises its definition of crate rules.
 ghost use mathlib.Core.Path.{_≡_};
-ghost use Prim.Native.Nat.{_<_};
-ghost use Rattle.rules.specs.Codes.{nodes, trunk, branch};
-ghost use Rattle.rules.specs.Names.{nameBy, nameOf, named, someIn};
-ghost use Rattle.rules.specs.Step.{refused, resetOf, stepOf, onwardOf};
-ghost use Rattle.engine.specs.Parts.{movedOf};
-use choices::name::name_of;
+ghost use Rattle.rules.specs.Names.{named};
+ghost use Rattle.rules.specs.Step.{refused, stepOf, onwardOf};
+ghost use Rattle.parts.specs.Parts.{movedOf};
 use parts::act;
 use parts::end_of;
 use parts::node_of;
-use reset::blank_state;
-use reset::start;
 use rules::Answer;
 use rules::Event;
 use rules::State;
-use rules::codes::Entry;
-use rules::codes::Name;
 use scan::configuration_ok;
-use sets::some_entry;
+use start::refused;
 use trees::tree_ok;
-
-mod judge;
-pub mod parts;
-mod probes;
-mod reset;
-mod sets;
-
-// "A refusal returns value 0 and the configuration unchanged, bad ones included."
-fn refused(number: u8, s: State) -> Answer
-    ensures { λ r. ⌜ r ≡ refused number s ⌝ }
-{
-    Answer {
-        number,
-        value: 0,
-        state: s,
-    }
-}
-
-// The configuration at reset; on a bad tree number 1 and an all-zero record.
-pub fn started(count: u8, parents: [u8; State::NODES], first: u64) -> Answer
-    ensures { λ r. ⌜ r ≡ resetOf count parents first ⌝ }
-{
-    if !tree_ok(count, &parents) {
-        let s = blank_state();
-        return refused(Answer::BAD_TREE, s);
-    }
-    let s = start(count, &parents, first);
-    Answer {
-        number: Answer::ACCEPTED,
-        value: 0,
-        state: s,
-    }
-}
 
 // The step on a tree within the node limit: numbers 3, 4 and 5.
 fn moved(s: State, ev: Event) -> Answer
@@ -124,33 +84,9 @@ pub fn onward(s: State, ev: Event) -> Answer
     moved(s, ev)
 }
 
-// The name of a node of the arrays, with the rights r.
-fn node_name(entries: &[u8; State::CELLS], r: u8, x: usize) -> u8
-    requires { ⌜ x < nodes ⌝ }
-    ensures { λ res. ⌜ res ≡ nameOf r (someIn (now (entries .entry)) x trunk) (someIn (now (entries .entry)) x branch) ⌝ }
-{
-    let trunks = some_entry(entries, x, Entry::TRUNK);
-    let branches = some_entry(entries, x, Entry::BRANCH);
-    name_of(r, trunks, branches)
-}
-
 // The name of node x; beyond the node limit it is N, as of a node with no rights.
 pub fn named(s: State, x: u8) -> u8
     ensures { λ r. ⌜ r ≡ named s x ⌝ }
 {
-    name_by(&s.rights, &s.entries, x)
-}
-
-// The same on the lent rights and entries: a configuration is not copied to name its nodes.
-pub fn name_by<'a>(rights: &'a [u8; State::NODES], entries: &'a [u8; State::CELLS], x: u8) -> u8
-    ensures { λ r. ⌜ r ≡ nameBy (now (rights .entry)) (now (entries .entry)) x ⌝ }
-{
-    let i = x as usize;
-    // Lent as a slice, the array shows the proof how long it is.
-    let r = trees::at(rights, i);
-    if i < State::NODES {
-        node_name(entries, r, i)
-    } else {
-        Name::N
-    }
+    parts::name_by(&s.rights, &s.entries, x)
 }

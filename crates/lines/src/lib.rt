@@ -82,7 +82,7 @@ fn put_name_of<'a>(
 ) -> usize
     ensures { λ r. ⌜ Wrote (now (out .entry)) at (nameText (nameBy (now (rights .entry)) (now (entries .entry)) x)) (now (out .exit)) r ⌝ }
 {
-    put_name(out, at, engine::name_by(rights, entries, x))
+    put_name(out, at, parts::name_by(rights, entries, x))
 }
 
 // The names of the first n nodes.

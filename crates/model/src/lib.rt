@@ -33,7 +33,7 @@ impl Config {
     pub fn reset(count: u8, parents: [u8; State::NODES], first: u64) -> Answer
         ensures { λ r. ⌜ r ≡ answered (resetOf count parents first) ⌝ }
     {
-        let made = engine::started(count, parents, first);
+        let made = start::started(count, parents, first);
         answered(made)
     }
 

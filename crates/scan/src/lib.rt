@@ -4,7 +4,7 @@ ghost use mathlib.Core.Path.{_≡_};
 ghost use Prim.Native.Nat.{_<_};
 ghost use Rattle.rules.specs.Codes.{nodes};
 ghost use Rattle.rules.specs.Tree.{childBy};
-ghost use Rattle.rules.specs.Configuration.{copyOk, serving, evicting, workOk, atLeaf, leafOk, hasRequester, requesterOk, childOk, probeOk, nodeOk, upOk, downOk, linkOk, memberOk, entryOk, pairOk, slotsEmpty, blank, standsOk, configurationOk};
+ghost use Rattle.rules.specs.Configuration.{copyOk, serving, evicting, workOk, atLeaf, leafOk, hasRequester, requesterOk, childOk, probeOk, nodeOk, upOk, downOk, linkOk, pairOk, slotsEmpty, blank, standsOk, configurationOk};
 ghost use Rattle.scan.specs.Parts.{nodeIn, pairIn, rowIn, rightIn};
 use choices::messages::carries_down;
 use choices::messages::carries_up;

@@ -17,8 +17,7 @@ use Rattle.rules.specs.Codes.{nodes}
 use Rattle.rules.specs.Tree.{goodTree}
 use Rattle.rules.specs.Step.{resetOf}
 use Rattle.closed.proofs.Reset.{reset-tree}
-use Rattle.model.specs.Answered.{answered}
-use Rattle.model.specs.declared.Answer.{Answer}
+use Rattle.rules.specs.declared.Answer.{Answer}
 use Rattle.octets.specs.Prefixed.{window, reach}
 use Rattle.octets.specs.Versions.{longestFirst, known}
 use Rattle.octets.specs.Written.{Wrote}
@@ -109,30 +108,30 @@ under s e w = rw e at w
 pub ruleset ways = (no-version, no-first, with-first)
 
 -- what reset answers, by what the code handed it
-pub reset-by : (s : List ℕ) {n v : ℕ} {ps : List ℕ} {a : Answer} → n ≡ countOf s → ps ≡ parentsOf s n → v ≡ firstValue s → a ≡ answered (resetOf n ps v) → a ≡ answered (resetBy s)
+pub reset-by : (s : List ℕ) {n v : ℕ} {ps : List ℕ} {a : Answer} → n ≡ countOf s → ps ≡ parentsOf s n → v ≡ firstValue s → a ≡ resetOf n ps v → a ≡ resetBy s
 unfolding resetBy
 reset-by s e f g h = h ∙ rw (f, e, g)
 
-module _ {o o′ : List ℕ} {r : ℕ} (v : ℕ) (s : List ℕ) {a : Answer} (e : a ≡ answered (resetBy s)) where
+module _ {o o′ : List ℕ} {r : ℕ} (v : ℕ) (s : List ℕ) {a : Answer} (e : a ≡ resetBy s) where
   pub bad-tree : (a .number ≡ 0 → ⊥) → Wrote o 0 (badLine 1) o′ r → Wrote o 0 (startedFrom v s (resetBy s)) o′ r
   unfolding startedFrom
   bad-tree n w =
       let t : eqb (resetBy s .number) 0 ≡ false = subst (λ (x : Answer). eqb (x .number) 0 ≡ false) e (ne-eqb (a .number) 0 n) in
       wrote-same (sym (choose-false _ _ t)) w
 
-  pub good-tree : {n : ℕ} → a .number ≡ 0 → n ≡ firstLength s → Wrote o 0 (eventsFrom v window s (3 + n) 1 (a .config .state)) o′ r → Wrote o 0 (startedFrom v s (resetBy s)) o′ r
+  pub good-tree : {n : ℕ} → a .number ≡ 0 → n ≡ firstLength s → Wrote o 0 (eventsFrom v window s (3 + n) 1 (a .state)) o′ r → Wrote o 0 (startedFrom v s (resetBy s)) o′ r
   unfolding startedFrom
   good-tree n f w =
       let t : eqb (resetBy s .number) 0 ≡ true = subst (λ (x : Answer). eqb (x .number) 0 ≡ true) e (eq-eqb (a .number) 0 n) in
       wrote-same (sym (choose-true _ _ t))
-      (subst (λ (x : Answer). Wrote o 0 (eventsFrom v window s (3 + firstLength s) 1 (x .config .state)) o′ r) e (rw f at w))
+      (subst (λ (x : Answer). Wrote o 0 (eventsFrom v window s (3 + firstLength s) 1 (x .state)) o′ r) e (rw f at w))
 
 -- the tree that reset accepts is good
-pub grown : (s : List ℕ) {a : Answer} → a ≡ answered (resetBy s) → a .number ≡ 0 → goodTree (a .config .state) ≡ true
+pub grown : (s : List ℕ) {a : Answer} → a ≡ resetBy s → a .number ≡ 0 → goodTree (a .state) ≡ true
 unfolding resetBy
 grown s {a} e n =
     let m : resetBy s .number ≡ 0 = subst (λ (x : Answer). x .number ≡ 0) e n in
-    subst⁻¹ (λ (x : Answer). goodTree (x .config .state) ≡ true) e (reset-tree (countOf s) (parentsOf s (countOf s)) (firstValue s) m)
+    subst⁻¹ (λ (x : Answer). goodTree (x .state) ≡ true) e (reset-tree (countOf s) (parentsOf s (countOf s)) (firstValue s) m)
 
 -- a text at the start of the buffer, and what stands after it
 module _ (o t : List ℕ) {o′ : List ℕ} {r : ℕ} (n : length o ≡ room) (h : r < room) (w : Wrote o 0 t o′ r) where

@@ -4,26 +4,24 @@ ghost use Prim.Native.Nat.{_+_, _<_, _≤_};
 ghost use mathlib.Core.Bool.{true};
 ghost use Rattle.rules.specs.Codes.{nodes};
 ghost use Rattle.rules.specs.Tree.{goodTree};
-ghost use Rattle.model.specs.Answered.{answered};
 ghost use Rattle.octets.specs.Prefixed.{window, reach};
 ghost use Rattle.octets.specs.Written.{Wrote};
 ghost use Rattle.lines.specs.Lines.{line};
 ghost use Rattle.trails.specs.Trail.{First, room, shortest, firstLength, closingIn, eventOf, eventsFrom, startedFrom, resetBy};
 use crate::ROOM;
 use crate::first::parents;
-use engine::parts::act;
-use engine::parts::end_of;
-use engine::parts::node_of;
 use lines::put_bad;
 use lines::put_end;
 use lines::put_line;
-use model::Config;
 use octets::limits::EVENT;
 use octets::limits::PREFIX;
 use octets::limits::reach;
 use octets::read::event_at;
 use octets::read::length_at;
 use octets::read::word_at;
+use parts::act;
+use parts::end_of;
+use parts::node_of;
 use rules::Answer;
 use rules::Event;
 use rules::State;
@@ -135,13 +133,13 @@ fn events(input: &[u8], out: &mut [u8; ROOM], version: u8, start: State, first: 
 }
 
 // Reset, as the first record asks for it.
-fn reset_by(input: &[u8]) -> model::Answer
+fn reset_by(input: &[u8]) -> Answer
     requires { ⌜ shortest ≤ firstLength (now input) ⌝ }
     requires { ⌜ firstLength (now input) ≤ nodes + 7 ⌝ }
-    ensures { λ r. ⌜ r ≡ answered (resetBy (now (input .entry))) ⌝ }
+    ensures { λ r. ⌜ r ≡ resetBy (now (input .entry)) ⌝ }
 {
     let count = length_at(input, 1) as usize - 7;
-    Config::reset(count as u8, parents(input, count), word_at(input, 3))
+    start::started(count as u8, parents(input, count), word_at(input, 3))
 }
 
 // The text after a good first record: reset, then the events.
@@ -154,8 +152,7 @@ pub fn started(input: &[u8], out: &mut [u8; ROOM], version: u8) -> usize
     if a.number != Answer::ACCEPTED {
         return put_bad(out, 0, 1);
     }
-    let c = a.config;
-    let s = c.state;
+    let s = a.state;
     let n = length_at(input, 1) as usize;
     events(input, out, version, s, 3 + n)
 }

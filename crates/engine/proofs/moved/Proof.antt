@@ -1,5 +1,5 @@
 use borrow.Author.Needs.{needs}
-use Rattle.engine.proofs.Moving.{moves}
+use Rattle.parts.proofs.Moving.{moves}
 use Rattle.engine.proofs.moved.Statement.{statement}
 use Rattle.engine.proofs.moved.Tie as tie
 

@@ -8,7 +8,7 @@ use mathlib.Core.Logic.{⊎-elim}
 use native.Mathlib.Omega.{arith}
 use borrow.Author.Needs.{needs}
 use lib.ListN.{length, take, drop}
-use Rattle.engine.proofs.Moving.{moves, onward-good}
+use Rattle.parts.proofs.Moving.{moves, onward-good}
 use Rattle.octets.specs.Prefixed.{window}
 use Rattle.trails.specs.Trail.{recordSize, recordAt, recordOk, eventsFrom}
 use Rattle.trails.proofs.Running.{Left, more, left-all, byte-more, copied, ended, cut, wrong, whole, turned, closes}

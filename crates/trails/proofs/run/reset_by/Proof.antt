@@ -17,4 +17,4 @@ reset-by-spec =
     (λ c. let valued = c .before in
     let rowed = valued .before in
     let led = rowed .before in
-    reset-by (led .before .before .args .input .now) (omega (arith, led .length-at .ensures)) (rowed .parents .ensures) (valued .word-at .ensures) (c .reset .ensures)))
+    reset-by (led .before .before .args .input .now) (omega (arith, led .length-at .ensures)) (rowed .parents .ensures) (valued .word-at .ensures) (c .started .ensures)))

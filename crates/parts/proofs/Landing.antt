@@ -1,0 +1,81 @@
+-- What the code of the step meets: the parts of a configuration after an event are those of its step.
+use mathlib.Core.Path.{_≡_, refl}
+use mathlib.Core.Bool.{Bool, true, false, not}
+use mathlib.Core.List.{List, [], _∷_}
+use Prim.Native.Nat.{ℕ, _<_, _≤_}
+use native.Mathlib.Omega.{arith}
+use borrow.Author.Tests.{eq-eqb, ne-eqb, le-leb, lt-leb}
+use lib.Dec.{leb}
+use Rattle.words.specs.Vocab.{choose}
+use Rattle.words.proofs.Laws.{tests}
+use Rattle.words.proofs.Facts.{choose-true, choose-false}
+use Rattle.rules.specs.Codes.{rightsN, nameN, accepts}
+use Rattle.rules.specs.Names.{nameOf}
+use Rattle.rules.specs.Table.{kindOf}
+use Rattle.rules.specs.Step.{Refusal, refusal, firstOf}
+use Rattle.rules.specs.declared.Event.{Event}
+use Rattle.rules.specs.declared.kinds.Row.{Row}
+use Rattle.parts.specs.Parts.{indexOf, endIn, sceneIn, numberIn, becomes, staysAs, partsBy, partsAt, partsIn, Laid, Landed}
+use Rattle.parts.specs.declared.Acted.{Acted}
+use Rattle.rules.specs.declared.Node.{Node}
+use Rattle.rules.specs.declared.Link.{Link}
+use Rattle.rules.specs.declared.Scene.{Scene}
+
+-- a node with no rights is named N
+pub name-none : (r : ℕ) (trunks branches : Bool) → r ≡ rightsN → nameN ≡ nameOf r trunks branches
+unfolding nameOf choose
+name-none r trunks branches h = rw h
+
+-- a scene from what was found of the row
+pub seen : (r : ℕ) (m : Node) (l : Link) (e : ℕ) (w u : Bool) {a b c d f g a′ b′ c′ d′ f′ g′ : Bool}
+    → a ≡ a′ → b ≡ b′ → c ≡ c′ → d ≡ d′ → f ≡ f′ → g ≡ g′
+    → _≡_ {A = Scene}
+    (record { rights = r; node = m; link = l; entry = e; «to_probe» = w; pending = u; leaf = a; still = b; bare = c; trunk = d; branch = f; alone = g })
+    (record { rights = r; node = m; link = l; entry = e; «to_probe» = w; pending = u; leaf = a′; still = b′; bare = c′; trunk = d′; branch = f′; alone = g′ })
+seen r m l e w u p q h i j k = rw (p, q, h, i, j, k)
+
+-- a list of refusals, by the code's tests one after the other
+module _ (n : ℕ) {t : Bool} (rs : List Refusal) where
+  pub first-yes : t ≡ true → n ≡ firstOf (refusal n t ∷ rs)
+  unfolding firstOf choose
+  first-yes e = rw e
+
+  pub first-no : {x : ℕ} → t ≡ false → x ≡ firstOf rs → x ≡ firstOf (refusal n t ∷ rs)
+  unfolding firstOf choose
+  first-no e h = rw e h
+
+pub first-none : accepts ≡ firstOf []
+unfolding firstOf
+first-none = refl
+
+pub over : (a b : ℕ) → b < a → not (leb a b) ≡ true
+over a b h = rw (lt-leb a b h)
+
+pub within : (a b : ℕ) → a ≤ b → not (leb a b) ≡ false
+within a b h = rw (le-leb a b h)
+
+pub ruleset firsts = (first-yes, first-no, first-none, over, within, tests, arith)
+
+module _ (n : ℕ) (ps rs es : List ℕ) (ws us : List Bool) (m : Node) (l : Link) (r : Row) (x j : ℕ) (e : Event) {v : Scene} (seen-at : v ≡ sceneIn n ps rs es ws us m l x j)
+    {k : ℕ} (judged : k ≡ numberIn n ps r v x j e) where
+  -- a refusal leaves the parts as they came
+  pub lands-refused : (k ≡ accepts → ⊥) → Landed (partsAt n ps rs es ws us m l r x j e) rs es ws us (record { number = k; value = 0; node = m; link = l })
+  unfolding partsBy
+  lands-refused h = rw (← seen-at, ← judged, choose-false (becomes rs es ws us r x j e v (kindOf (e .kind) .does v e)) (staysAs k rs es ws us m l) (ne-eqb k accepts h))
+      record { number = refl; value = refl; rights = refl; entries = refl; toProbe = refl; pending = refl; node = refl; link = refl }
+
+  -- an accepted event writes its effect
+  pub lands-accepted : k ≡ accepts → {w : Scene} {a : ℕ} {o : Node} {rs′ es′ : List ℕ} {ws′ us′ : List Bool}
+      → a ≡ kindOf (e .kind) .says v → w ≡ kindOf (e .kind) .does v e → Laid rs es ws us r v w x j (e .other) rs′ es′ ws′ us′ o
+      → Landed (partsAt n ps rs es ws us m l r x j e) rs′ es′ ws′ us′ (record { number = accepts; value = a; node = o; link = w .link })
+  unfolding partsBy
+  lands-accepted h {w} {a} {o} {rs′} {es′} {ws′} {us′} f g d =
+      rw (← seen-at, ← judged, choose-true (becomes rs es ws us r x j e v (kindOf (e .kind) .does v e)) (staysAs k rs es ws us m l) (eq-eqb k accepts h), ← g)
+      record { number = refl; value = f; rights = d .rights; entries = d .entries; toProbe = d .toProbe; pending = d .pending; node = rw (← d .toProbe, ← d .pending) (d .node); link = refl }
+
+-- the same at the node and on the link that the event names
+pub lands-there : (n : ℕ) (ps rs es : List ℕ) (ws us : List Bool) (m : Node) (l : Link) (e : Event) {r : Row} {x j : ℕ} {rs′ es′ : List ℕ} {ws′ us′ : List Bool} {a : Acted}
+    → x ≡ indexOf (e .node) → j ≡ endIn e m → r ≡ kindOf (e .kind) .row → Landed (partsAt n ps rs es ws us m l r x j e) rs′ es′ ws′ us′ a
+    → Landed (partsIn n ps rs es ws us m l e) rs′ es′ ws′ us′ a
+unfolding partsIn
+lands-there n ps rs es ws us m l e f g h d = rw (← f, ← g, ← h) d

@@ -1,0 +1,18 @@
+use Rattle.parts.specs.Parts.{numberIn}
+use borrow.Author.Needs.{needs}
+use Rattle.parts.proofs.Landing.{firsts}
+use Rattle.parts.proofs.judge.judged.Statement.{statement}
+use Rattle.parts.proofs.judge.judged.Tie as tie
+
+pub judged-spec : {M : Type 1} → statement M
+unfolding numberIn
+judged-spec =
+    tie.close (tie.spec
+    (λ c. search firsts)
+    (λ c κs. search needs)
+    (λ c. search firsts)
+    (λ c κs. search needs)
+    (λ c. search firsts)
+    (λ c κs. search needs)
+    (λ c. search firsts)
+    (λ c. search firsts))

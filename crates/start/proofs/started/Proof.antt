@@ -1,0 +1,16 @@
+use Rattle.rules.specs.Step.{resetOf}
+use borrow.Author.Needs.{needs}
+use Rattle.words.proofs.Laws.{tests, choose-yes, choose-no}
+use Rattle.start.proofs.started.Statement.{statement}
+use Rattle.start.proofs.started.Tie as tie
+
+pub started-spec : {M : Type 1} → statement M
+unfolding resetOf
+started-spec =
+    tie.close (tie.spec
+    (λ c κs. search needs)
+    (λ c κs. search needs)
+    (λ c κs. search needs)
+    (λ c. choose-yes _ _ _ _ (search tests) (cc))
+    (λ c κs. search needs)
+    (λ c. choose-no _ _ _ _ (search tests) (cc)))

@@ -1,0 +1,26 @@
+use mathlib.Core.Path.{_≡_}
+use Prim.Native.Nat.{_≤_, _-_}
+use Rattle.rules.specs.Codes.{nodes}
+use Rattle.words.specs.Vocab.{fill}
+use lib.ListN.{replicate}
+use Rattle.rules.specs.Step.{treeParent, treeParents}
+use Rattle.words.proofs.Laws.{loops}
+use Rattle.start.proofs.tree_parents.Statement.{statement}
+use Rattle.start.proofs.tree_parents.Tie as tie
+
+abbrev Inv-loop : tie.InvT-loop
+Inv-loop count parents row₀ k₀ row k = (k ≤ nodes) × (row ≡ fill (treeParent count parents) 0 k (replicate nodes 0))
+
+pub tree-parents-spec : {M : Type 1} → statement M
+unfolding treeParents
+tree-parents-spec =
+    tie.close (tie.spec
+    Inv-loop
+    (λ count parents row₀ k₀ row k. nodes - k)
+    (λ c. search loops)
+    (λ c κs. search loops)
+    (λ c. search loops)
+    (λ c. search loops)
+    (λ c. search loops)
+    (λ c. search loops)
+    (λ c. search loops))
