@@ -1,5 +1,5 @@
-// When the needs of a kind hold, as the rows of document 01's event table have it. Every public function is total and promises
-// its definition of crate rules.
+// Whether an event may happen: when the needs of its kind hold, as the rows of document 01's event table have it, and the number of
+// a refusal. Every public function is total and promises its definition.
 ghost use mathlib.Core.Path.{_≡_};
 ghost use Rattle.rules.specs.Table.{kindOf};
 use rules::Event;
@@ -7,6 +7,7 @@ use rules::Scene;
 
 mod acquire;
 mod grant;
+pub mod judge;
 mod local;
 mod probe;
 mod release;

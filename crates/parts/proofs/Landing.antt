@@ -1,21 +1,18 @@
 -- What the code of the step meets: the parts of a configuration after an event are those of its step.
 use mathlib.Core.Path.{_≡_, refl}
-use mathlib.Core.Bool.{Bool, true, false, not}
-use mathlib.Core.List.{List, [], _∷_}
-use Prim.Native.Nat.{ℕ, _<_, _≤_}
-use native.Mathlib.Omega.{arith}
-use borrow.Author.Tests.{eq-eqb, ne-eqb, le-leb, lt-leb}
-use lib.Dec.{leb}
+use mathlib.Core.Bool.{Bool}
+use mathlib.Core.List.{List}
+use Prim.Native.Nat.{ℕ}
+use borrow.Author.Tests.{eq-eqb, ne-eqb}
 use Rattle.words.specs.Vocab.{choose}
-use Rattle.words.proofs.Laws.{tests}
 use Rattle.words.proofs.Facts.{choose-true, choose-false}
 use Rattle.rules.specs.Codes.{rightsN, nameN, accepts}
 use Rattle.rules.specs.Names.{nameOf}
 use Rattle.rules.specs.Table.{kindOf}
-use Rattle.rules.specs.Step.{Refusal, refusal, firstOf}
 use Rattle.rules.specs.declared.Event.{Event}
 use Rattle.rules.specs.declared.kinds.Row.{Row}
-use Rattle.parts.specs.Parts.{indexOf, endIn, sceneIn, numberIn, becomes, staysAs, partsBy, partsAt, partsIn, Laid, Landed}
+use Rattle.needs.specs.Judged.{numberIn}
+use Rattle.parts.specs.Parts.{indexOf, endIn, sceneIn, becomes, staysAs, partsBy, partsAt, partsIn, Laid, Landed}
 use Rattle.parts.specs.declared.Acted.{Acted}
 use Rattle.rules.specs.declared.Node.{Node}
 use Rattle.rules.specs.declared.Link.{Link}
@@ -33,28 +30,6 @@ pub seen : (r : ℕ) (m : Node) (l : Link) (e : ℕ) (w u : Bool) {a b c d f g a
     (record { rights = r; node = m; link = l; entry = e; «to_probe» = w; pending = u; leaf = a; still = b; bare = c; trunk = d; branch = f; alone = g })
     (record { rights = r; node = m; link = l; entry = e; «to_probe» = w; pending = u; leaf = a′; still = b′; bare = c′; trunk = d′; branch = f′; alone = g′ })
 seen r m l e w u p q h i j k = rw (p, q, h, i, j, k)
-
--- a list of refusals, by the code's tests one after the other
-module _ (n : ℕ) {t : Bool} (rs : List Refusal) where
-  pub first-yes : t ≡ true → n ≡ firstOf (refusal n t ∷ rs)
-  unfolding firstOf choose
-  first-yes e = rw e
-
-  pub first-no : {x : ℕ} → t ≡ false → x ≡ firstOf rs → x ≡ firstOf (refusal n t ∷ rs)
-  unfolding firstOf choose
-  first-no e h = rw e h
-
-pub first-none : accepts ≡ firstOf []
-unfolding firstOf
-first-none = refl
-
-pub over : (a b : ℕ) → b < a → not (leb a b) ≡ true
-over a b h = rw (lt-leb a b h)
-
-pub within : (a b : ℕ) → a ≤ b → not (leb a b) ≡ false
-within a b h = rw (le-leb a b h)
-
-pub ruleset firsts = (first-yes, first-no, first-none, over, within, tests, arith)
 
 module _ (n : ℕ) (ps rs es : List ℕ) (ws us : List Bool) (m : Node) (l : Link) (r : Row) (x j : ℕ) (e : Event) {v : Scene} (seen-at : v ≡ sceneIn n ps rs es ws us m l x j)
     {k : ℕ} (judged : k ≡ numberIn n ps r v x j e) where

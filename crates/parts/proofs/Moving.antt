@@ -27,7 +27,8 @@ use Rattle.rules.specs.declared.Node.{Node}
 use Rattle.rules.specs.declared.Answer.{Answer}
 use Rattle.rules.specs.declared.kinds.End.{End}
 use Rattle.rules.specs.declared.kinds.End.the-variants.{Own, Named, Requester, Noted}
-use Rattle.parts.specs.Parts.{indexOf, endIn, numberIn, movedOf, Parts, staysAs, partsBy, partsAt, partsIn, Landed}
+use Rattle.needs.specs.Judged.{numberIn}
+use Rattle.parts.specs.Parts.{indexOf, endIn, movedOf, Parts, staysAs, partsBy, partsAt, partsIn, Landed}
 use Rattle.parts.specs.declared.Acted.{Acted}
 
 -- the parts of a configuration, put back at x and j

@@ -1,19 +1,18 @@
 -- The step on the parts of a configuration: whoever owns one lends its arrays, and hands the node and the link over by value.
 -- Each definition is, by its own words, the one of crate rules at a configuration with these parts.
 use mathlib.Core.Path.{_≡_}
-use mathlib.Core.Bool.{Bool, false, not, _&&_}
-use mathlib.Core.List.{List, [], _∷_}
+use mathlib.Core.Bool.{Bool, false, not}
+use mathlib.Core.List.{List, _∷_}
 use Prim.Native.Nat.{ℕ}
 use lib.ListN.{getD, set}
 use lib.Dec.{eqb, leb, ltb}
 use Rattle.words.specs.Vocab.{choose}
-use Rattle.rules.specs.Codes.{nodes, trunk, branch, accepts, badTree, badEvent, wrongPlace, outOfTurn}
+use Rattle.rules.specs.Codes.{nodes, trunk, branch, accepts, badTree}
 use Rattle.rules.specs.Cells.{cell}
-use Rattle.rules.specs.Tree.{childIn, leafIn}
+use Rattle.rules.specs.Tree.{leafIn}
 use Rattle.rules.specs.Names.{someIn, noneIn, othersNoneIn, setsEmptyIn}
-use Rattle.rules.specs.Table.{isKind, kindOf}
-use Rattle.rules.specs.Events.{otherFits, valueFits, placeFits}
-use Rattle.rules.specs.Step.{endOf, linkThere, probedIn, settledNode, refusal, firstOf, eventRefusals, answerOf}
+use Rattle.rules.specs.Table.{kindOf}
+use Rattle.rules.specs.Step.{endOf, probedIn, settledNode, refusal, firstOf, eventRefusals, answerOf}
 use Rattle.rules.specs.declared.State.{State}
 use Rattle.rules.specs.declared.Node.{Node}
 use Rattle.rules.specs.declared.Link.{Link}
@@ -21,6 +20,7 @@ use Rattle.rules.specs.declared.Scene.{Scene}
 use Rattle.rules.specs.declared.Event.{Event}
 use Rattle.rules.specs.declared.Answer.{Answer}
 use Rattle.rules.specs.declared.kinds.Row.{Row}
+use Rattle.needs.specs.Judged.{numberIn}
 use Rattle.parts.specs.declared.Acted.{Acted}
 
 -- an index from a byte: 0 where it is none
@@ -35,24 +35,6 @@ endIn e m = indexOf (endOf (kindOf (e .kind) .row .end) m (e .node) (e .other))
 abbrev pub sceneIn : ℕ → List ℕ → List ℕ → List ℕ → List Bool → List Bool → Node → Link → ℕ → ℕ → Scene
 sceneIn n ps rs es ws us m l x j =
     record { rights = getD rs x 0; node = m; link = l; entry = getD es (cell x j) 0; «to_probe» = getD ws (cell x j) false; pending = getD us (cell x j) false; leaf = leafIn n ps x; still = setsEmptyIn ws us x; bare = noneIn es x; trunk = someIn es x trunk; branch = someIn es x branch; alone = othersNoneIn es x j }
-
--- eventOk, placeOk and turnOk, with the row of the kind
-abbrev pub eventIn : ℕ → List ℕ → Row → Event → Bool
-eventIn n ps r e =
-    isKind (e .kind) && ltb (e .node) n && otherFits (r .other) (childIn n ps (e .node) (e .other)) (e .other) && valueFits (r .value) (e .value)
-
-abbrev pub placeIn : Row → Scene → Event → Bool
-placeIn r v e = placeFits (r .place) (v .leaf) (e .node)
-
-abbrev pub turnIn : ℕ → List ℕ → Row → Scene → ℕ → ℕ → Event → Bool
-turnIn n ps r v x j e = linkThere (r .end) (childIn n ps x j) && kindOf (e .kind) .needs v e
-
--- the first number that applies on a tree within the node limit
-unfoldable pub numberIn : ℕ → List ℕ → Row → Scene → ℕ → ℕ → Event → ℕ
-numberIn n ps r v x j e =
-    firstOf
-    (refusal badTree (not (leb n nodes)) ∷ refusal badEvent (not (eventIn n ps r e)) ∷ refusal wrongPlace (not (placeIn r v e))
-    ∷ refusal outOfTurn (not (turnIn n ps r v x j e)) ∷ [])
 
 -- the same of a configuration: the step on a tree within the node limit, without numbers 1 and 2
 unfoldable pub movedOf : State → Event → Answer

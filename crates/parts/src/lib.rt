@@ -6,7 +6,6 @@ ghost use Rattle.rules.specs.Codes.{nodes, trunk, branch};
 ghost use Rattle.rules.specs.Step.{endOf};
 ghost use Rattle.parts.specs.Parts.{indexOf, endIn, sceneIn, Laid, partsAt, partsIn, Landed};
 ghost use Rattle.rules.specs.Names.{nameBy, nameOf, someIn};
-use crate::judge::judged;
 use crate::probes::write_row;
 use crate::sets::none_held;
 use crate::sets::others_none;
@@ -14,6 +13,7 @@ use crate::sets::sets_empty;
 use crate::sets::some_entry;
 use choices::name::name_of;
 use choices::settle::settled_phase;
+use needs::judge::judged;
 use rules::Answer;
 use rules::Event;
 use rules::Link;
@@ -26,7 +26,6 @@ use rules::kinds::End;
 use rules::kinds::Row;
 use trees::is_leaf;
 
-mod judge;
 mod probes;
 mod sets;
 

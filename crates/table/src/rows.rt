@@ -1,6 +1,6 @@
 // The event table: what each kind's row says beside its needs and its effect (document 01, "Events").
 ghost use mathlib.Core.Path.{_≡_};
-ghost use Rattle.rules.specs.Table.{isKind, kindOf, row};
+ghost use Rattle.rules.specs.Table.{kindOf, row};
 ghost use Rattle.rules.specs.declared.kinds.Other.the-variants.{NoOther};
 ghost use Rattle.rules.specs.declared.kinds.Value.the-variants.{NoValue};
 ghost use Rattle.rules.specs.declared.kinds.End.the-variants.{Own};
@@ -39,34 +39,6 @@ fn plain(place: Place) -> Row
         end: End::Own,
         probes: Probes::Stay,
         settles: Settles::Never,
-    }
-}
-
-// "kind not 1..19": a number that no row has.
-pub fn is_kind(kind: u8) -> bool
-    ensures { λ r. ⌜ r ≡ isKind kind ⌝ }
-{
-    match kind {
-        Event::LOAD => true,
-        Event::STORE => true,
-        Event::LOAD_MISS => true,
-        Event::STORE_MISS => true,
-        Event::EVICT => true,
-        Event::SEND_ACQUIRE => true,
-        Event::TAKE_ACQUIRE => true,
-        Event::SEND_PROBE => true,
-        Event::TAKE_PROBE => true,
-        Event::SEND_PROBE_ACK => true,
-        Event::TAKE_PROBE_ACK => true,
-        Event::TAKE_GRANT => true,
-        Event::SEND_GRANT_ACK => true,
-        Event::SEND_GRANT => true,
-        Event::TAKE_GRANT_ACK => true,
-        Event::SEND_RELEASE => true,
-        Event::TAKE_RELEASE => true,
-        Event::SEND_RELEASE_ACK => true,
-        Event::TAKE_RELEASE_ACK => true,
-        _ => false,
     }
 }
 

@@ -1,6 +1,6 @@
 use borrow.Author.Needs.{needs}
-use Rattle.parts.proofs.judge.event_ok.Statement.{statement}
-use Rattle.parts.proofs.judge.event_ok.Tie as tie
+use Rattle.needs.proofs.judge.event_ok.Statement.{statement}
+use Rattle.needs.proofs.judge.event_ok.Tie as tie
 
 pub event-ok-spec : {M : Type 1} → statement M
 event-ok-spec =

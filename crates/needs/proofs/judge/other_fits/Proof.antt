@@ -1,7 +1,7 @@
 use Rattle.rules.specs.Events.{otherFits}
 use borrow.Author.Needs.{needs}
-use Rattle.parts.proofs.judge.other_fits.Statement.{statement}
-use Rattle.parts.proofs.judge.other_fits.Tie as tie
+use Rattle.needs.proofs.judge.other_fits.Statement.{statement}
+use Rattle.needs.proofs.judge.other_fits.Tie as tie
 
 pub other-fits-spec : {M : Type 1} → statement M
 unfolding otherFits

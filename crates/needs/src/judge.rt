@@ -1,8 +1,10 @@
 // Numbers 3, 4 and 5: the first that applies, and 0 where none does.
 ghost use mathlib.Core.Path.{_≡_};
+ghost use Rattle.needs.specs.Judged.{eventIn, turnIn, numberIn};
 ghost use Rattle.rules.specs.Events.{otherFits, valueFits, placeFits};
 ghost use Rattle.rules.specs.Step.{linkThere};
-ghost use Rattle.parts.specs.Parts.{eventIn, turnIn, numberIn};
+ghost use Rattle.rules.specs.Table.{isKind};
+use crate::needs_hold;
 use rules::Answer;
 use rules::Event;
 use rules::Scene;
@@ -13,6 +15,34 @@ use rules::kinds::Place;
 use rules::kinds::Row;
 use rules::kinds::Value;
 use trees::is_child;
+
+// "kind not 1..19": a number that no row has.
+fn is_kind(kind: u8) -> bool
+    ensures { λ r. ⌜ r ≡ isKind kind ⌝ }
+{
+    match kind {
+        Event::LOAD => true,
+        Event::STORE => true,
+        Event::LOAD_MISS => true,
+        Event::STORE_MISS => true,
+        Event::EVICT => true,
+        Event::SEND_ACQUIRE => true,
+        Event::TAKE_ACQUIRE => true,
+        Event::SEND_PROBE => true,
+        Event::TAKE_PROBE => true,
+        Event::SEND_PROBE_ACK => true,
+        Event::TAKE_PROBE_ACK => true,
+        Event::TAKE_GRANT => true,
+        Event::SEND_GRANT_ACK => true,
+        Event::SEND_GRANT => true,
+        Event::TAKE_GRANT_ACK => true,
+        Event::SEND_RELEASE => true,
+        Event::TAKE_RELEASE => true,
+        Event::SEND_RELEASE_ACK => true,
+        Event::TAKE_RELEASE_ACK => true,
+        _ => false,
+    }
+}
 
 // "other not as named"
 fn other_fits(other: Other, child: bool, o: u8) -> bool
@@ -62,7 +92,7 @@ fn link_there(end: End, child: bool) -> bool
 fn event_ok(count: u8, parents: &[u8; State::NODES], row: Row, ev: Event) -> bool
     ensures { λ r. ⌜ r ≡ eventIn count (now (parents .entry)) row ev ⌝ }
 {
-    let known = table::rows::is_kind(ev.kind);
+    let known = is_kind(ev.kind);
     let child = is_child(count, parents, ev.node, ev.other);
     let may = row.other;
     let other = other_fits(may, child, ev.other);
@@ -86,7 +116,7 @@ fn turn_ok(
     let child = is_child(count, parents, x, j);
     let end = row.end;
     let there = link_there(end, child);
-    let needs = needs::needs_hold(v, ev);
+    let needs = needs_hold(v, ev);
     there & needs
 }
 

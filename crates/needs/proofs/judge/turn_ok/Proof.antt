@@ -1,6 +1,6 @@
 use borrow.Author.Needs.{needs}
-use Rattle.parts.proofs.judge.turn_ok.Statement.{statement}
-use Rattle.parts.proofs.judge.turn_ok.Tie as tie
+use Rattle.needs.proofs.judge.turn_ok.Statement.{statement}
+use Rattle.needs.proofs.judge.turn_ok.Tie as tie
 
 pub turn-ok-spec : {M : Type 1} → statement M
 turn-ok-spec =

@@ -1,8 +1,8 @@
-use Rattle.parts.specs.Parts.{numberIn}
+use Rattle.needs.specs.Judged.{numberIn}
 use borrow.Author.Needs.{needs}
-use Rattle.parts.proofs.Landing.{firsts}
-use Rattle.parts.proofs.judge.judged.Statement.{statement}
-use Rattle.parts.proofs.judge.judged.Tie as tie
+use Rattle.needs.proofs.Refusing.{firsts}
+use Rattle.needs.proofs.judge.judged.Statement.{statement}
+use Rattle.needs.proofs.judge.judged.Tie as tie
 
 pub judged-spec : {M : Type 1} → statement M
 unfolding numberIn

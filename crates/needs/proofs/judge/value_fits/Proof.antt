@@ -1,7 +1,7 @@
 use Rattle.rules.specs.Events.{valueFits}
 use borrow.Author.Needs.{needs}
-use Rattle.parts.proofs.judge.value_fits.Statement.{statement}
-use Rattle.parts.proofs.judge.value_fits.Tie as tie
+use Rattle.needs.proofs.judge.value_fits.Statement.{statement}
+use Rattle.needs.proofs.judge.value_fits.Tie as tie
 
 pub value-fits-spec : {M : Type 1} → statement M
 unfolding valueFits

@@ -1,8 +1,8 @@
 use mathlib.Core.Path.{refl, sym}
 use Rattle.rules.specs.Table.{listed}
 use Rattle.choices.proofs.Arms.{is-at, unlisted}
-use Rattle.table.proofs.rows.is_kind.Statement.{statement}
-use Rattle.table.proofs.rows.is_kind.Tie as tie
+use Rattle.needs.proofs.judge.is_kind.Statement.{statement}
+use Rattle.needs.proofs.judge.is_kind.Tie as tie
 
 pub is-kind-spec : {M : Type 1} → statement M
 unfolding listed
