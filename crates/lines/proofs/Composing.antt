@@ -1,14 +1,12 @@
 -- Lines put together from what was written, and how long they are.
 use mathlib.Core.Path.{_≡_}
-use mathlib.Core.List.{List, [], _∷_}
+use mathlib.Core.List.{List, [], _∷_, flatMap}
 use Prim.Native.Nat.{ℕ, suc, _+_, _*_, _^_, _<_, _≤_, zero, min}
-use native.Mathlib.Numerals.{add-one}
 use native.Mathlib.Omega.{arith}
-use lib.ListN.{length, length-append, List·getD-eq-default}
-use Rattle.rules.specs.Names.{nameBy}
+use lib.ListN.{length, take, getD, length-append, List·getD-eq-default}
 use Rattle.octets.specs.Written.{Wrote}
-use Rattle.octets.proofs.BytesWritten.{wrote-then, wrote-none, wrote-length}
-use Rattle.lines.specs.Lines.{space, newline, decimal, field, asked, line, nameText, nameTexts, names, endLine, badLine}
+use Rattle.octets.proofs.BytesWritten.{wrote-then, wrote-none, each-more}
+use Rattle.lines.specs.Lines.{space, newline, decimal, field, asked, line, nameText, nameTexts, nameLine, endLine, badLine}
 use Rattle.lines.proofs.Decimal.{spelled-short}
 
 -- a number, then what follows it
@@ -16,26 +14,13 @@ pub field-wrote : {a b c : List ℕ} {at p r : ℕ} (n after : ℕ) {t : List �
 unfolding field
 field-wrote n after e f g = rw e at (wrote-then f g)
 
--- names: none, one more, all
-pub names-none : (rs es a : List ℕ) (at : ℕ) {p : ℕ} → p ≡ min at (length a) → Wrote a at (names rs es 0) a p
-unfolding names
-names-none rs es a at e = wrote-none a at e
-
-pub names-more : {a b c : List ℕ} {at p r : ℕ} (rs es : List ℕ) (x : ℕ) → Wrote a at (names rs es x) b p → Wrote b p (nameText (nameBy rs es x)) c r → Wrote a at (names rs es (x + 1)) c r
-unfolding names
-names-more rs es x f g = rw add-one (wrote-then f g)
-
-pub names-all : {a b : List ℕ} {at p : ℕ} (rs es : List ℕ) (x n : ℕ) → x ≤ n → n ≤ x → Wrote a at (names rs es x) b p → Wrote a at (names rs es n) b p
-names-all rs es x n l m f = let e : n ≡ x = omega arith in rw e f
-
-pub ruleset naming = (names-none, names-more, names-all, wrote-length, arith)
+-- one name more
+pub name-more : {a b c : List ℕ} {at p r : ℕ} (l : List ℕ) (k : ℕ) → Wrote a at (nameLine (take k l)) b p → k < length l → Wrote b p (nameText (getD l k 0)) c r → Wrote a at (nameLine (take (k + 1) l)) c r
+name-more l k = each-more nameText l k 0
 
 -- the name of the code k, and no name
 pub name-wrote : {a b : List ℕ} {at r k n : ℕ} → n ≡ k → Wrote a at (nameText k) b r → Wrote a at (nameText n) b r
 name-wrote e f = rw e f
-
-pub named-wrote : {a b : List ℕ} {at r k n : ℕ} → k ≡ n → Wrote a at (nameText k) b r → Wrote a at (nameText n) b r
-named-wrote e f = rw e at f
 
 unnamed : (n : ℕ) → 5 ≤ n → nameText n ≡ []
 unfolding nameText
@@ -67,14 +52,14 @@ name-short (suc (suc (suc zero))) = omega arith
 name-short (suc (suc (suc (suc zero)))) = omega arith
 name-short (suc (suc (suc (suc (suc n))))) = omega arith
 
-names-short : (rs es : List ℕ) (n : ℕ) → length (names rs es n) ≤ 3 * n
-unfolding names
-names-short rs es zero = omega arith
-names-short rs es (suc n) = rw length-append (omega (arith, names-short rs es n, name-short (nameBy rs es n)))
+names-short : (l : List ℕ) → length (nameLine l) ≤ 3 * length l
+unfolding flatMap
+names-short [] = omega arith
+names-short (n ∷ l) = rw length-append (omega (arith, names-short l, name-short n))
 
-end-short : (n : ℕ) (rs es : List ℕ) → length (endLine n rs es) ≤ 3 * n + 4
+end-short : (l : List ℕ) → length (endLine l) ≤ 3 * length l + 4
 unfolding endLine
-end-short n rs es = simp length-append (omega (arith, names-short rs es n))
+end-short l = simp length-append (omega (arith, names-short l))
 
 -- how far each line reaches
 module _ {a b : List ℕ} {at r : ℕ} where
@@ -84,5 +69,5 @@ module _ {a b : List ℕ} {at r : ℕ} where
   pub bad-near : (p : ℕ) → Wrote a at (badLine p) b r → p < 2 ^ 64 → r ≤ at + 800
   bad-near p w h = omega (arith, w .next, bad-short p h)
 
-  pub end-near : (n : ℕ) (rs es : List ℕ) → Wrote a at (endLine n rs es) b r → n < 256 → r ≤ at + 800
-  end-near n rs es w h = omega (arith, w .next, end-short n rs es)
+  pub end-near : (l : List ℕ) → Wrote a at (endLine l) b r → length l < 256 → r ≤ at + 800
+  end-near l w h = omega (arith, w .next, end-short l)

@@ -1,12 +1,11 @@
 -- The lines that document 01 prints: numbers in decimal, the line of an event, `end` and `bad P`. A text is the list of its bytes.
-use mathlib.Core.List.{List, [] as none, _∷_ as _then_, _++_}
+use mathlib.Core.List.{List, [] as none, _∷_ as _then_, _++_, flatMap}
 use Prim.Native.Char.{code}
 use Prim.Native.Nat.{ℕ, zero, suc, _+_, _/_, _%_}
 use Prim.Native.String.{String, [], _∷_}
 use lib.ListN.{getD}
 use lib.Dec.{ltb}
 use Rattle.words.specs.Vocab.{choose}
-use Rattle.rules.specs.Names.{nameBy}
 
 -- the bytes of a text in ASCII
 abbrev pub ascii : String → List ℕ
@@ -46,14 +45,12 @@ nameTexts = ascii " N" then ascii " B" then ascii " T" then ascii " TB" then asc
 unfoldable pub nameText : ℕ → List ℕ
 nameText n = getD nameTexts n none
 
--- the names of the first n nodes, in order, by the rights and the entries of all nodes
-unfoldable pub names : List ℕ → List ℕ → ℕ → List ℕ
-names rs es zero = none
-names rs es (suc n) = names rs es n ++ nameText (nameBy rs es n)
+abbrev pub nameLine : List ℕ → List ℕ
+nameLine = flatMap nameText
 
 -- "`end` and the node names in order"
-unfoldable pub endLine : ℕ → List ℕ → List ℕ → List ℕ
-endLine n rs es = ascii "end" ++ names rs es n ++ ascii "\n"
+unfoldable pub endLine : List ℕ → List ℕ
+endLine names = ascii "end" ++ nameLine names ++ ascii "\n"
 
 -- "`bad P`"
 unfoldable pub badLine : ℕ → List ℕ

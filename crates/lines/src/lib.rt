@@ -1,14 +1,12 @@
 // The lines that document 01 prints, put into a lent buffer. Each function writes from `at` on, as far as the buffer goes, and
 // answers the place after its text.
 ghost use Prim.Native.Nat.{_<_};
-ghost use Rattle.rules.specs.Names.{nameBy};
 ghost use Rattle.octets.specs.Written.{Wrote};
-ghost use Rattle.lines.specs.Lines.{field, asked, line, nameText, names, endLine, badLine};
+ghost use Rattle.lines.specs.Lines.{field, asked, line, nameText, nameLine, endLine, badLine};
 use octets::limits::least;
 use octets::put::put_byte;
 use octets::put::put_bytes;
 use rules::Event;
-use rules::State;
 use rules::codes::Name;
 
 // A number of one digit, as most are, and the byte after it.
@@ -72,48 +70,23 @@ fn put_name(out: &mut [u8], at: usize, name: u8) -> usize
     }
 }
 
-// The name of node x.
-fn put_name_of<'a>(
-    out: &mut [u8],
-    at: usize,
-    rights: &'a [u8; State::NODES],
-    entries: &'a [u8; State::CELLS],
-    x: u8,
-) -> usize
-    ensures { λ r. ⌜ Wrote (now (out .entry)) at (nameText (nameBy (now (rights .entry)) (now (entries .entry)) x)) (now (out .exit)) r ⌝ }
-{
-    put_name(out, at, parts::name_by(rights, entries, x))
-}
-
-// The names of the first n nodes.
-fn put_names<'a>(
-    out: &mut [u8],
-    at: usize,
-    n: u8,
-    rights: &'a [u8; State::NODES],
-    entries: &'a [u8; State::CELLS],
-) -> usize
-    ensures { λ r. ⌜ Wrote (now (out .entry)) at (names (now (rights .entry)) (now (entries .entry)) n) (now (out .exit)) r ⌝ }
+// The names, one after the other.
+fn put_names(out: &mut [u8], at: usize, names: &[u8]) -> usize
+    ensures { λ r. ⌜ Wrote (now (out .entry)) at (nameLine (now (names .entry))) (now (out .exit)) r ⌝ }
 {
     let mut p = least(at, out.len());
-    for x in 0..n {
-        p = put_name_of(out, p, rights, entries, x);
+    for k in 0..names.len() {
+        p = put_name(out, p, names[k]);
     }
     p
 }
 
-// "`end` and the node names in order". The configuration's arrays are lent, so that nothing is copied.
-pub fn put_end<'a>(
-    out: &mut [u8],
-    at: usize,
-    n: u8,
-    rights: &'a [u8; State::NODES],
-    entries: &'a [u8; State::CELLS],
-) -> usize
-    ensures { λ r. ⌜ Wrote (now (out .entry)) at (endLine n (now (rights .entry)) (now (entries .entry))) (now (out .exit)) r ⌝ }
+// "`end` and the node names in order"
+pub fn put_end(out: &mut [u8], at: usize, names: &[u8]) -> usize
+    ensures { λ r. ⌜ Wrote (now (out .entry)) at (endLine (now (names .entry))) (now (out .exit)) r ⌝ }
 {
     let p = put_bytes(out, at, b"end");
-    let q = put_names(out, p, n, rights, entries);
+    let q = put_names(out, p, names);
     put_byte(out, q, b'\n')
 }
 

@@ -159,7 +159,7 @@ moves s e {x} {j} p q d =
     (rw (q, p) (at-place s e (indexOf (e .node)) (endIn e (node s (indexOf (e .node)))) ∙ moved-at s e))
 
 -- a good tree is within the node limit
-within-limit : (s : State) → goodTree s ≡ true → leb (s .count) nodes ≡ true
+pub within-limit : (s : State) → goodTree s ≡ true → leb (s .count) nodes ≡ true
 unfolding treeOk
 within-limit s h = both (leb 2 (s .count)) _ (both (leb 2 (s .count) && leb (s .count) nodes) _ h .0) .1
 

@@ -1,11 +1,12 @@
 -- The trail of document 01: from the bytes of the input to the whole output.
 use mathlib.Core.Bool.{Bool, not, _&&_}
-use mathlib.Core.List.{List, _++_}
+use mathlib.Core.List.{List, [], _∷_, _++_}
 use Prim.Native.Nat.{ℕ, zero, suc, _+_, _-_, _≤_}
 use lib.ListN.{length, take, drop, replicate}
 use lib.Dec.{eqb, leb}
 use Rattle.words.specs.Vocab.{fill, choose}
 use Rattle.rules.specs.Codes.{nodes}
+use Rattle.rules.specs.Names.{nameBy}
 use Rattle.rules.specs.Step.{resetOf, onwardOf}
 use Rattle.rules.specs.declared.State.{State}
 use Rattle.rules.specs.declared.Event.{Event}
@@ -55,7 +56,7 @@ abbrev pub recordAt : List ℕ → ℕ → List ℕ
 recordAt s at = take recordSize (drop at s)
 
 unfoldable pub recordOk : List ℕ → ℕ → Bool
-recordOk s at = leb (at + recordSize) (reach s) && eqb (lengthAt (recordAt s at) 0) eventSize
+recordOk s at = leb (at + recordSize) (reach s) && eqb (lengthAt s at) eventSize
 
 -- the event of a record, as a trail of version v reads it: version 1 takes the fields as they stand
 unfoldable pub eventOf : ℕ → List ℕ → Event
@@ -65,9 +66,14 @@ eventOf v r = eventAt r prefixSize
 abbrev pub lineOf : ℕ → Event → Answer → List ℕ
 lineOf i e a = line i (e .kind) (e .node) (a .number) (a .value)
 
+-- the names of the first n nodes, in order, by the rights and the entries of all nodes
+unfoldable pub namesBy : List ℕ → List ℕ → ℕ → List ℕ
+namesBy rs es zero = []
+namesBy rs es (suc n) = namesBy rs es n ++ (nameBy rs es n ∷ [])
+
 -- where no good record stands at `at`: "the input ends or a record is bad"
 unfoldable pub closingIn : List ℕ → ℕ → ℕ → List ℕ → List ℕ → List ℕ
-closingIn s at n rs es = choose (leb (length s) at) (endLine n rs es) (badLine at)
+closingIn s at n rs es = choose (leb (length s) at) (endLine (namesBy rs es n)) (badLine at)
 
 abbrev pub closing : List ℕ → ℕ → State → List ℕ
 closing s at c = closingIn s at (c .count) (c .rights) (c .entries)

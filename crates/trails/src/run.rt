@@ -2,12 +2,13 @@
 ghost use mathlib.Core.Path.{_≡_};
 ghost use Prim.Native.Nat.{_+_, _<_, _≤_};
 ghost use mathlib.Core.Bool.{true};
+ghost use lib.ListN.{length, take};
 ghost use Rattle.rules.specs.Codes.{nodes};
 ghost use Rattle.rules.specs.Tree.{goodTree};
 ghost use Rattle.octets.specs.Prefixed.{window, reach};
 ghost use Rattle.octets.specs.Written.{Wrote};
 ghost use Rattle.lines.specs.Lines.{line};
-ghost use Rattle.trails.specs.Trail.{First, room, shortest, firstLength, closingIn, eventOf, eventsFrom, startedFrom, resetBy};
+ghost use Rattle.trails.specs.Trail.{First, room, shortest, firstLength, recordSize, recordAt, recordOk, namesBy, closingIn, eventOf, eventsFrom, startedFrom, resetBy};
 use crate::ROOM;
 use crate::first::parents;
 use lines::put_bad;
@@ -21,6 +22,7 @@ use octets::read::length_at;
 use octets::read::word_at;
 use parts::act;
 use parts::end_of;
+use parts::name_by;
 use parts::node_of;
 use rules::Answer;
 use rules::Event;
@@ -29,11 +31,36 @@ use rules::State;
 // An event record with its length.
 const RECORD: usize = PREFIX + EVENT;
 
-// The event of a record, as a trail of the version reads it.
-fn event(version: u8, r: &[u8; RECORD]) -> Event
-    ensures { λ e. ⌜ e ≡ eventOf version (now (r .entry)) ⌝ }
+// Whether a good record stands at `at`.
+fn record_ok(input: &[u8], at: usize) -> bool
+    requires { ⌜ at ≤ window ⌝ }
+    ensures { λ r. ⌜ r ≡ recordOk (now (input .entry)) at ⌝ }
 {
-    event_at(r, PREFIX)
+    if at + RECORD > reach(input) {
+        return false;
+    }
+    length_at(input, at) == EVENT as u64
+}
+
+// The record at `at`, in an array: what is read from it needs no look at the input's length.
+fn record_at(input: &[u8], at: usize) -> [u8; RECORD]
+    requires { ⌜ at + recordSize ≤ length (now input) ⌝ }
+    ensures { λ r. ⌜ r ≡ recordAt (now (input .entry)) at ⌝ }
+{
+    let mut bytes = [0u8; RECORD];
+    for k in 0..RECORD {
+        bytes[k] = input[at + k];
+    }
+    bytes
+}
+
+// The event of the record at `at`, as a trail of the version reads it.
+fn event(version: u8, input: &[u8], at: usize) -> Event
+    requires { ⌜ at + recordSize ≤ length (now input) ⌝ }
+    ensures { λ e. ⌜ e ≡ eventOf version (recordAt (now (input .entry)) at) ⌝ }
+{
+    let bytes = record_at(input, at);
+    event_at(&bytes, PREFIX)
 }
 
 // The line of an event that a trail prints: an index has at most five digits.
@@ -45,26 +72,44 @@ fn put_next(out: &mut [u8; ROOM], at: usize, index: u64, ev: Event, number: u8, 
     put_line(out, at, index, ev, number, value)
 }
 
-// The last line: the input ended at `end`, or a bad record stands there. The configuration's arrays are lent, not copied.
+// The names of the first n nodes; what stands after them says nothing.
+fn names<'a>(
+    n: u8,
+    rights: &'a [u8; State::NODES],
+    entries: &'a [u8; State::CELLS],
+) -> [u8; State::NODES]
+    requires { ⌜ n ≤ nodes ⌝ }
+    ensures { λ r. ⌜ take n r ≡ namesBy (now (rights .entry)) (now (entries .entry)) n ⌝ }
+{
+    let mut names = [0u8; State::NODES];
+    for x in 0..n {
+        names[x as usize] = name_by(rights, entries, x);
+    }
+    names
+}
+
+// The last line: the input ended at `at`, or a bad record stands there. The configuration's arrays are lent, not copied.
 fn put_closing<'a>(
     input: &[u8],
     out: &mut [u8; ROOM],
+    p: usize,
     at: usize,
-    end: usize,
     n: u8,
     rights: &'a [u8; State::NODES],
     entries: &'a [u8; State::CELLS],
 ) -> usize
-    ensures { λ r. ⌜ Wrote (now (out .entry)) at (closingIn (now (input .entry)) end n (now (rights .entry)) (now (entries .entry))) (now (out .exit)) r ⌝ }
-    ensures { λ r. ⌜ r ≤ at + 800 ⌝ }
+    requires { ⌜ n ≤ nodes ⌝ }
+    ensures { λ r. ⌜ Wrote (now (out .entry)) p (closingIn (now (input .entry)) at n (now (rights .entry)) (now (entries .entry))) (now (out .exit)) r ⌝ }
+    ensures { λ r. ⌜ r ≤ p + 800 ⌝ }
 {
-    if end >= input.len() {
-        return put_end(out, at, n, rights, entries);
+    if at >= input.len() {
+        let codes = names(n, rights, entries);
+        return put_end(out, p, &codes[..n as usize]);
     }
-    put_bad(out, at, end)
+    put_bad(out, p, at)
 }
 
-// The text of the events from the offset `first` on. The loop breaks with the offset of a bad record, or of the input's end.
+// The text of the events from the offset `first` on, until no good record stands there.
 // The configuration stands in its parts and is changed in place: an event copies a node and a link. Its tree is good, so number 1
 // is not looked for at each event.
 fn events(input: &[u8], out: &mut [u8; ROOM], version: u8, start: State, first: usize) -> usize
@@ -74,7 +119,6 @@ fn events(input: &[u8], out: &mut [u8; ROOM], version: u8, start: State, first: 
     ensures { λ r. ⌜ Wrote (now (out .entry)) 0 (eventsFrom version window (now (input .entry)) first 1 start) (now (out .exit)) r ⌝ }
     ensures { λ r. ⌜ r < room ⌝ }
 {
-    let limit = reach(input);
     let count = start.count;
     let parents = start.parents;
     let mut rights = start.rights;
@@ -86,26 +130,8 @@ fn events(input: &[u8], out: &mut [u8; ROOM], version: u8, start: State, first: 
     let mut at = first;
     let mut index: u64 = 1;
     let mut p: usize = 0;
-    let end = 'events: loop {
-        if at >= input.len() {
-            break 'events at;
-        }
-        let mut record = [0u8; RECORD];
-        let mut k: usize = 0;
-        'record: loop {
-            if k >= RECORD {
-                break 'record;
-            }
-            if at + k >= limit {
-                break 'events at;
-            }
-            record[k] = input[at + k];
-            k = k + 1;
-        }
-        if length_at(&record, 0) != EVENT as u64 {
-            break 'events at;
-        }
-        let ev = event(version, &record);
+    while record_ok(input, at) {
+        let ev = event(version, input, at);
         let x = node_of(ev);
         let m = nodes[x];
         let j = end_of(ev, m);
@@ -128,8 +154,8 @@ fn events(input: &[u8], out: &mut [u8; ROOM], version: u8, start: State, first: 
         p = put_next(out, p, index, ev, a.number, a.value);
         index = index + 1;
         at = at + RECORD;
-    };
-    put_closing(input, out, p, end, count, &rights, &entries)
+    }
+    put_closing(input, out, p, at, count, &rights, &entries)
 }
 
 // Reset, as the first record asks for it.
