@@ -1,1 +1,1 @@
-// The starred cases of document 01, proved from the definitions. No code.
+// The cases of document 01, computed from the definitions. No code.

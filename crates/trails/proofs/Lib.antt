@@ -1,4 +1,3 @@
--- Laws of the trail: the first record, the loop over the events, and cases computed from the definition.
+-- Laws of the trail: the first record, and the loop over the events.
 pub mod Starting
 pub mod Running
-pub mod Cases
