@@ -19,9 +19,9 @@ use Rattle.writes.proofs.Cases.{by-purpose}
 use Rattle.writes.proofs.Effects.{SendAcquireWrites, TakeAcquireWrites}
 use Rattle.writes.proofs.Needs.{SendAcquireNeeds, TakeAcquireNeeds}
 use Rattle.closed.proofs.Tables.{Table, by-code}
-use Rattle.closed.proofs.Parts.{Main, with-main, slot-a}
+use Rattle.closed.proofs.Subjects.{Main, with-main, slot-a}
 use Rattle.closed.proofs.Fits.{Fits}
-use Rattle.closed.proofs.Frame.{Here, Kept, kept-by, own-fits, child-below, child-link, not-leaf, own-below}
+use Rattle.closed.proofs.Keeps.{Here, Kept, kept-by, own-fits, child-below, child-link, not-leaf, own-below}
 use Rattle.closed.proofs.Work.{moved, settled-new}
 use Rattle.closed.proofs.Pairs.{listed-pair}
 

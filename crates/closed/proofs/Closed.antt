@@ -19,8 +19,8 @@ use Rattle.rules.specs.declared.Event.{Event}
 use Rattle.writes.proofs.Writes.{Sized}
 use Rattle.writes.proofs.Effects.{load-writes, store-writes, load-miss-writes, store-miss-writes, evict-writes, send-acquire-writes, take-acquire-writes, send-probe-writes, take-probe-writes, send-probe-ack-writes, take-probe-ack-writes, take-grant-writes, send-grant-ack-writes, send-grant-writes, take-grant-ack-writes, send-release-writes, take-release-writes, send-release-ack-writes, take-release-ack-writes}
 use Rattle.writes.proofs.Needs.{store-needs, load-miss-needs, store-miss-needs, evict-needs, send-acquire-needs, take-acquire-needs, take-probe-needs, send-probe-ack-needs, take-probe-ack-needs, take-grant-needs, send-grant-ack-needs, send-grant-needs, send-release-needs, take-release-needs}
-use Rattle.writes.proofs.Judged.{linkOf, done, tree, known, Taken, step-taken, onward-taken, Every, end, each, by-kind}
-use Rattle.closed.proofs.Frame.{Here, Kept, in-array, child-array}
+use Rattle.writes.proofs.Accepted.{linkOf, done, tree, known, Taken, step-taken, onward-taken, Every, end, each, by-kind}
+use Rattle.closed.proofs.Keeps.{Here, Kept, in-array, child-array}
 use Rattle.closed.proofs.Local.{load-keeps, store-keeps, load-miss-keeps, store-miss-keeps, evict-keeps}
 use Rattle.closed.proofs.Acquire.{send-acquire-keeps, take-acquire-keeps}
 use Rattle.closed.proofs.Probe.{send-probe-keeps, take-probe-keeps, send-probe-ack-keeps, take-probe-ack-keeps}

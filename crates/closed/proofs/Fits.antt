@@ -8,7 +8,7 @@ use Rattle.rules.specs.Cells.{rights, entry, toProbe, pending, node, link}
 use Rattle.rules.specs.Tree.{isChild, isLeaf}
 use Rattle.rules.specs.Configuration.{linkOk, nodeAt, standsAt, pairAt, rowAt, rightAt, configurationOk}
 use Rattle.rules.specs.declared.State.{State}
-use Rattle.closed.proofs.Parts.{Own, own, own-ok, Slots, slots, slots-ok, Pair, pair, pair-ok}
+use Rattle.closed.proofs.Subjects.{Own, own, own-ok, Slots, slots, slots-ok, Pair, pair, pair-ok}
 
 -- number 2 finds nothing at y
 pub record Fits (s : State) (y : ℕ) : Type 0 where

@@ -23,9 +23,9 @@ use Rattle.rules.specs.declared.Event.{Event}
 use Rattle.writes.proofs.Cases.{by-purpose, by-down}
 use Rattle.writes.proofs.Effects.{TakeGrantWrites, SendGrantAckWrites, SendGrantWrites, TakeGrantAckWrites}
 use Rattle.writes.proofs.Needs.{TakeGrantNeeds, SendGrantAckNeeds, SendGrantNeeds}
-use Rattle.closed.proofs.Parts.{Own, rights-code, with-main, slot-d, slot-e}
+use Rattle.closed.proofs.Subjects.{Own, rights-code, with-main, slot-d, slot-e}
 use Rattle.closed.proofs.Fits.{Fits}
-use Rattle.closed.proofs.Frame.{Here, Kept, kept-by, own-fits, child-below, child-link, own-below}
+use Rattle.closed.proofs.Keeps.{Here, Kept, kept-by, own-fits, child-below, child-link, own-below}
 use Rattle.closed.proofs.Work.{idle-main, moved}
 use Rattle.closed.proofs.Pairs.{risen-pair, child-pairs}
 use Rattle.closed.proofs.Local.{tip-named}

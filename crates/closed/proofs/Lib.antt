@@ -1,7 +1,7 @@
 pub mod Tables
-pub mod Parts
+pub mod Subjects
 pub mod Fits
-pub mod Frame
+pub mod Keeps
 pub mod Work
 pub mod Pairs
 pub mod Local

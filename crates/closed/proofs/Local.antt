@@ -21,9 +21,9 @@ use Rattle.rules.specs.declared.Event.{Event}
 use Rattle.writes.proofs.Writes.{Writes}
 use Rattle.writes.proofs.Effects.{LoadWrites, StoreWrites, LoadMissWrites, StoreMissWrites, EvictWrites}
 use Rattle.writes.proofs.Needs.{StoreNeeds, LoadMissNeeds, StoreMissNeeds, EvictNeeds}
-use Rattle.closed.proofs.Parts.{Main, with-main}
+use Rattle.closed.proofs.Subjects.{Main, with-main}
 use Rattle.closed.proofs.Fits.{Fits}
-use Rattle.closed.proofs.Frame.{Here, Kept, kept-by, own-fits}
+use Rattle.closed.proofs.Keeps.{Here, Kept, kept-by, own-fits}
 use Rattle.closed.proofs.Work.{begun, settled-new}
 use Rattle.closed.proofs.Pairs.{listed-pair}
 

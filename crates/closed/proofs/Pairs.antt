@@ -12,7 +12,7 @@ use Rattle.words.proofs.Facts.{both, and-true}
 use Rattle.rules.specs.Codes.{nodes, levels, none, trunk}
 use Rattle.rules.specs.Configuration.{memberOk, entryOk}
 use Rattle.closed.proofs.Tables.{Table3, by-three}
-use Rattle.closed.proofs.Parts.{Pair, entry-code}
+use Rattle.closed.proofs.Subjects.{Pair, entry-code}
 
 -- "entries not None" are those of children, so they may be in to-probe
 pub listed-pair : {r e : ℕ} {child listed waits : Bool} (listed′ : Bool) → Pair r child e listed waits → (e ≡ none → listed′ ≡ false)

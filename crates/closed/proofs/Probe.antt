@@ -23,9 +23,9 @@ use Rattle.writes.proofs.Cases.{by-purpose, by-cap}
 use Rattle.writes.proofs.Effects.{SendProbeWrites, TakeProbeWrites, SendProbeAckWrites, TakeProbeAckWrites}
 use Rattle.writes.proofs.Needs.{TakeProbeNeeds, SendProbeAckNeeds, TakeProbeAckNeeds, all-none, no-entry}
 use Rattle.closed.proofs.Tables.{Table, by-code, Table2, by-two}
-use Rattle.closed.proofs.Parts.{Own, rights-code, cap-code, Slots, Pair, entry-code, slot-b, slot-c}
+use Rattle.closed.proofs.Subjects.{Own, rights-code, cap-code, Slots, Pair, entry-code, slot-b, slot-c}
 use Rattle.closed.proofs.Fits.{Fits}
-use Rattle.closed.proofs.Frame.{Here, Kept, kept-by, own-fits, child-below, child-array, child-link, not-leaf, own-below}
+use Rattle.closed.proofs.Keeps.{Here, Kept, kept-by, own-fits, child-below, child-array, child-link, not-leaf, own-below}
 use Rattle.closed.proofs.Work.{settled-own}
 use Rattle.closed.proofs.Pairs.{listed-pair, turned-pair, fallen-entry, child-pairs}
 

@@ -19,9 +19,9 @@ use Rattle.rules.specs.declared.State.{State}
 use Rattle.rules.specs.declared.Event.{Event}
 use Rattle.writes.proofs.Effects.{SendReleaseWrites, TakeReleaseWrites, SendReleaseAckWrites, TakeReleaseAckWrites}
 use Rattle.writes.proofs.Needs.{SendReleaseNeeds, TakeReleaseNeeds}
-use Rattle.closed.proofs.Parts.{Own, with-main, slot-c, slot-d}
+use Rattle.closed.proofs.Subjects.{Own, with-main, slot-c, slot-d}
 use Rattle.closed.proofs.Fits.{Fits}
-use Rattle.closed.proofs.Frame.{Here, Kept, kept-by, own-fits, child-below, child-array, child-link, not-leaf, own-below}
+use Rattle.closed.proofs.Keeps.{Here, Kept, kept-by, own-fits, child-below, child-array, child-link, not-leaf, own-below}
 use Rattle.closed.proofs.Work.{idle-main, moved, settled-own}
 use Rattle.closed.proofs.Pairs.{turned-pair, child-pairs}
 use Rattle.closed.proofs.Probe.{data-own}

@@ -23,8 +23,8 @@ use Rattle.rules.specs.Step.{treeParent, treeParents, startOf, resetOf}
 use Rattle.rules.specs.declared.Node.{Node}
 use Rattle.rules.specs.declared.Answer.{Answer}
 use Rattle.writes.proofs.Writes.{Sized}
-use Rattle.writes.proofs.Judged.{tree}
-use Rattle.closed.proofs.Parts.{Own, Slots, Pair}
+use Rattle.writes.proofs.Accepted.{tree}
+use Rattle.closed.proofs.Subjects.{Own, Slots, Pair}
 use Rattle.closed.proofs.Fits.{Fits, from-fits}
 use Rattle.closed.proofs.Work.{idle-main}
 

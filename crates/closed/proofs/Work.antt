@@ -14,7 +14,7 @@ use Rattle.rules.specs.Settle.{nextPhase, phaseAfter}
 use Rattle.rules.specs.declared.Node.{Node}
 use Rattle.writes.proofs.Cases.{by-purpose}
 use Rattle.closed.proofs.Tables.{Table, by-code}
-use Rattle.closed.proofs.Parts.{Main, Own, with-main}
+use Rattle.closed.proofs.Subjects.{Main, Own, with-main}
 
 purpose-code : (ph pu : ℕ) → workOk ph pu ≡ true → pu < purposes
 unfolding workOk

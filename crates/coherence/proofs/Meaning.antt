@@ -1,4 +1,4 @@
 -- What the invariant means: from its clauses to demand 3, along the tree.
 pub mod Named
-pub mod Tree
-pub mod Parts
+pub mod SoleTip
+pub mod Demands

@@ -13,7 +13,7 @@ use Rattle.rules.specs.declared.Node.{Node}
 use Rattle.rules.specs.declared.Link.{Link}
 use Rattle.writes.proofs.Writes.{Writes}
 use Rattle.writes.proofs.Needs.{Child}
-use Rattle.writes.proofs.Judged.{Tree}
+use Rattle.writes.proofs.Accepted.{Tree}
 use Rattle.writes.proofs.Views.{View, view, ownView, childView}
 
 -- Clauses on the link of k, and on the node x with its rights, its fields, its entries, to-probe and pending.

@@ -3,6 +3,6 @@ pub mod Put
 pub mod Writes
 pub mod Effects
 pub mod Needs
-pub mod Judged
+pub mod Accepted
 pub mod Views
 pub mod Frame

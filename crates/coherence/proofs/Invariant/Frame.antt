@@ -10,7 +10,7 @@ use Rattle.rules.specs.declared.Node.{Node}
 use Rattle.rules.specs.declared.Link.{Link}
 use Rattle.writes.proofs.Writes.{Writes, sized}
 use Rattle.writes.proofs.Needs.{Child}
-use Rattle.writes.proofs.Judged.{tree}
+use Rattle.writes.proofs.Accepted.{tree}
 use Rattle.writes.proofs.Views.{ownView, childView}
 use Rattle.writes.proofs.Frame.{Everywhere, Cellwise, Elsewhere, elsewhere-same, frame-own, frame-child}
 use Rattle.coherence.proofs.Invariant.Clauses.{LinkOk, NodeOk, Inv}

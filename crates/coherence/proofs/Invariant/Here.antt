@@ -16,9 +16,9 @@ use Rattle.rules.specs.Probe.{servesProbes}
 use Rattle.rules.specs.Release.{awaits}
 use Rattle.rules.specs.declared.State.{State}
 use Rattle.writes.proofs.Needs.{Child}
-use Rattle.writes.proofs.Judged.{Tree, tree}
+use Rattle.writes.proofs.Accepted.{Tree, tree}
 use Rattle.writes.proofs.Views.{viewAt}
-use Rattle.closed.proofs.Parts.{rights-code, entry-code}
+use Rattle.closed.proofs.Subjects.{rights-code, entry-code}
 use Rattle.closed.proofs.Fits.{Fits, fits}
 use Rattle.coherence.proofs.Invariant.Clauses.{LinkOk, Inv}
 use Rattle.coherence.proofs.Invariant.Valid.{dirty-tip, up-code, kept-code, down-code, held}

@@ -12,7 +12,7 @@ use Rattle.rules.specs.Messages.{carriesUp, carriesDown, isProbeAck}
 use Rattle.rules.specs.Configuration.{copyOk, probeOk, upOk, downOk, entryOk}
 use Rattle.rules.specs.declared.Node.{Node}
 use Rattle.rules.specs.declared.Link.{Link}
-use Rattle.closed.proofs.Parts.{Own, rights-code, Slots, Pair}
+use Rattle.closed.proofs.Subjects.{Own, rights-code, Slots, Pair}
 
 module _ {leaf : Bool} {child : ℕ → Bool} {r : ℕ} {m : Node} (o : Own leaf child r m) where
   -- only Tip is dirty

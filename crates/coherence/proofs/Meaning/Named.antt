@@ -12,7 +12,7 @@ use Rattle.rules.specs.Cells.{rights, entry}
 use Rattle.rules.specs.Names.{nameOf, named, readableName, readable, someEntry}
 use Rattle.rules.specs.declared.State.{State}
 use Rattle.writes.proofs.Needs.{no-entry}
-use Rattle.closed.proofs.Parts.{entry-code}
+use Rattle.closed.proofs.Subjects.{entry-code}
 use Rattle.coherence.proofs.Invariant.Clauses.{Inv}
 use Rattle.coherence.proofs.Invariant.Valid.{trunk-tip}
 use Rattle.coherence.proofs.Invariant.Here.{fit-at}

@@ -19,7 +19,7 @@ use Rattle.coherence.proofs.Invariant.Frame.{store-step}
 use Rattle.coherence.proofs.Invariant.Here.{small, parent-inside, bare, child-small}
 use Rattle.coherence.proofs.Shared.Stays.{below-values}
 use Rattle.coherence.proofs.Meaning.Named.{tt-is}
-use Rattle.coherence.proofs.Meaning.Tree.{Above, sole-tip}
+use Rattle.coherence.proofs.Meaning.SoleTip.{Above, sole-tip}
 
 module _ {s : State} {v : ℕ} (i : Inv s v) (e : Event) {x : ℕ} (inside : x < s .count) (n : StoreNeeds s x) where
   abbrev new : ℕ

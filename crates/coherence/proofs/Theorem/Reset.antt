@@ -16,7 +16,7 @@ use Rattle.rules.specs.Release.{awaits}
 use Rattle.rules.specs.Step.{startOf}
 use Rattle.rules.specs.declared.State.{State}
 use Rattle.rules.specs.declared.Node.{Node}
-use Rattle.writes.proofs.Judged.{Tree, tree}
+use Rattle.writes.proofs.Accepted.{Tree, tree}
 use Rattle.writes.proofs.Views.{View, view}
 use Rattle.closed.proofs.Reset.{start-tree, start-sized, start-configuration, root-fields, start-link, start-rights, start-fields, start-entry, start-listed, start-waits}
 use Rattle.coherence.proofs.Invariant.Clauses.{agrees, exactly, LinkOk, NodeOk, Inv}

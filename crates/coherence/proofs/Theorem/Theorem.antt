@@ -26,13 +26,13 @@ use Rattle.rules.specs.declared.Answer.{Answer}
 use Rattle.writes.proofs.Writes.{Sized}
 use Rattle.writes.proofs.Effects.{load-writes, store-writes, load-miss-writes, store-miss-writes, evict-writes, send-acquire-writes, take-acquire-writes, send-probe-writes, take-probe-writes, send-probe-ack-writes, take-probe-ack-writes, take-grant-writes, send-grant-ack-writes, send-grant-writes, take-grant-ack-writes, send-release-writes, take-release-writes, send-release-ack-writes, take-release-ack-writes}
 use Rattle.writes.proofs.Needs.{child, load-needs, store-needs, load-miss-needs, store-miss-needs, evict-needs, send-acquire-needs, take-acquire-needs, send-probe-needs, take-probe-needs, send-probe-ack-needs, take-probe-ack-needs, take-grant-needs, send-grant-ack-needs, send-grant-needs, take-grant-ack-needs, send-release-needs, take-release-needs, send-release-ack-needs, take-release-ack-needs}
-use Rattle.writes.proofs.Judged.{linkOf, done, known, step-taken, Every, end, each, by-kind}
+use Rattle.writes.proofs.Accepted.{linkOf, done, known, step-taken, Every, end, each, by-kind}
 use Rattle.closed.proofs.Closed.{closed}
 use Rattle.coherence.specs.Reached.{Reached, start, next, lastOf}
 use Rattle.coherence.specs.Coherent.{Coherent}
 use Rattle.coherence.proofs.Invariant.Clauses.{Inv}
 use Rattle.coherence.proofs.Invariant.Here.{good, small, child-small}
-use Rattle.coherence.proofs.Meaning.Parts.{inv-coherent}
+use Rattle.coherence.proofs.Meaning.Demands.{inv-coherent}
 use Rattle.coherence.proofs.Steps.Load.{load-keeps}
 use Rattle.coherence.proofs.Steps.Store.{store-keeps}
 use Rattle.coherence.proofs.Steps.Miss.{miss-keeps}

@@ -17,7 +17,7 @@ use Rattle.rules.specs.declared.Node.{Node}
 use Rattle.rules.specs.declared.Link.{Link}
 use Rattle.writes.proofs.Writes.{Sized, Writes, sized}
 use Rattle.writes.proofs.Needs.{child}
-use Rattle.closed.proofs.Parts.{Own, Slots, Pair}
+use Rattle.closed.proofs.Subjects.{Own, Slots, Pair}
 use Rattle.closed.proofs.Fits.{Fits, fits, from-fits}
 
 -- t is a configuration on the tree of s

@@ -15,7 +15,7 @@ use Rattle.rules.specs.Names.{named, readable}
 use Rattle.rules.specs.Configuration.{slotsEmpty}
 use Rattle.rules.specs.declared.State.{State}
 use Rattle.rules.specs.declared.Link.{Link}
-use Rattle.closed.proofs.Parts.{rights-code}
+use Rattle.closed.proofs.Subjects.{rights-code}
 use Rattle.writes.proofs.Needs.{Child}
 use Rattle.writes.proofs.Views.{view}
 use Rattle.coherence.specs.Coherent.{saysRights, Coherent}
@@ -24,7 +24,7 @@ use Rattle.coherence.proofs.Invariant.Valid.{held, trunk-tip}
 use Rattle.coherence.proofs.Invariant.Tokens.{Codes, code-at, implies2}
 use Rattle.coherence.proofs.Invariant.Here.{good, small, fit-at, own-child, clean, child-small, inside-above, codes-of, below-entry, no-data}
 use Rattle.coherence.proofs.Meaning.Named.{readable-is, tt-is}
-use Rattle.coherence.proofs.Meaning.Tree.{Above, sole-tip}
+use Rattle.coherence.proofs.Meaning.SoleTip.{Above, sole-tip}
 
 -- with C and D empty the entry says the rights
 says : {r e c k d : ℕ} → Codes r e c k d → (agrees r e c k d && exactly r e c k d) ≡ true → (eqb c empty && eqb d empty) ≡ true → saysRights e r ≡ true
