@@ -9,12 +9,12 @@ use lib.Dec.{eqb, leb}
 use Rattle.words.specs.Vocab.{all, choose}
 use Rattle.words.proofs.Facts.{both, or-right, differ, by-test}
 use Rattle.rules.specs.Codes.{acquires, rightsN, none, nameT, clear, ask, wait, noChild, empty, acquireU}
-use Rattle.rules.specs.Cells.{slotA}
 use Rattle.rules.specs.Tree.{isChild, isLeaf}
 use Rattle.rules.specs.Configuration.{serving, evicting, workOk, atLeaf, leafOk, hasRequester, requesterOk, childOk}
 use Rattle.rules.specs.Acquire.{acquireFor, purposeFor, probedFor}
 use Rattle.rules.specs.declared.State.{State}
 use Rattle.rules.specs.declared.Event.{Event}
+use Rattle.writes.proofs.Fields.{slotA}
 use Rattle.writes.proofs.Cases.{by-purpose}
 use Rattle.writes.proofs.Effects.{SendAcquireWrites, TakeAcquireWrites}
 use Rattle.writes.proofs.Needs.{SendAcquireNeeds, TakeAcquireNeeds}

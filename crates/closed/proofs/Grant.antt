@@ -10,7 +10,7 @@ use Rattle.words.specs.Vocab.{all, choose}
 use Rattle.words.proofs.Facts.{both, either, clash, by-test, choose-at, choose-off}
 use Rattle.rules.specs.Codes.{levels, rightsN, rightsB, tip, branch, trunk, nameTT, wait, confirm, give, await, toLoad, grantT, grantDataT, shared, sole}
 use Rattle.rules.specs.With.{withPhase}
-use Rattle.rules.specs.Cells.{rights, purpose, requester, value, slotD, down}
+use Rattle.rules.specs.Cells.{rights, value}
 use Rattle.rules.specs.Tree.{isChild}
 use Rattle.rules.specs.Names.{nameOf, readableName}
 use Rattle.rules.specs.Messages.{carriesDown, grantedRights, entryFor}
@@ -20,6 +20,7 @@ use Rattle.rules.specs.Grant.{grantFits, confirmed, mayGrant, grantFor, grantVa
 use Rattle.rules.specs.declared.State.{State}
 use Rattle.rules.specs.declared.Node.{Node}
 use Rattle.rules.specs.declared.Event.{Event}
+use Rattle.writes.proofs.Fields.{purpose, requester, slotD, down}
 use Rattle.writes.proofs.Cases.{by-purpose, by-down}
 use Rattle.writes.proofs.Effects.{TakeGrantWrites, SendGrantAckWrites, SendGrantWrites, TakeGrantAckWrites}
 use Rattle.writes.proofs.Needs.{TakeGrantNeeds, SendGrantAckNeeds, SendGrantNeeds}

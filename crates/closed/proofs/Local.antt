@@ -10,7 +10,7 @@ use Rattle.words.specs.Vocab.{choose}
 use Rattle.words.proofs.Facts.{by-test}
 use Rattle.rules.specs.Codes.{tip, rightsB, nameTT, idle, clear, ask, toLoad, toStore, toEvict}
 use Rattle.rules.specs.With.{withPhase, withPurpose}
-use Rattle.rules.specs.Cells.{rights, entry, toProbe, pending, node, link, phase, requester}
+use Rattle.rules.specs.Cells.{rights, entry, toProbe, pending, node, link}
 use Rattle.rules.specs.Tree.{isChild, isLeaf}
 use Rattle.rules.specs.Names.{nameOf}
 use Rattle.rules.specs.Configuration.{copyOk, serving, evicting, workOk, atLeaf, leafOk, hasRequester}
@@ -18,6 +18,7 @@ use Rattle.rules.specs.Settle.{nextPhase}
 use Rattle.rules.specs.Local.{held}
 use Rattle.rules.specs.declared.State.{State}
 use Rattle.rules.specs.declared.Event.{Event}
+use Rattle.writes.proofs.Fields.{phase, requester}
 use Rattle.writes.proofs.Writes.{Writes}
 use Rattle.writes.proofs.Effects.{LoadWrites, StoreWrites, LoadMissWrites, StoreMissWrites, EvictWrites}
 use Rattle.writes.proofs.Needs.{StoreNeeds, LoadMissNeeds, StoreMissNeeds, EvictNeeds}

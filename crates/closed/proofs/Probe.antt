@@ -9,7 +9,7 @@ use lib.Dec.{eqb, leb}
 use Rattle.words.specs.Vocab.{all, choose}
 use Rattle.words.proofs.Facts.{both, and-true, clash, differ, implies, all-at, by-test, choose-at, choose-off}
 use Rattle.rules.specs.Codes.{levels, ups, rightsN, rightsB, tip, none, trunk, capB, capN, empty, probeN, releaseData}
-use Rattle.rules.specs.Cells.{rights, entry, toProbe, pending, link, dirty, value, cap, kept, slotB}
+use Rattle.rules.specs.Cells.{rights, entry, toProbe, pending, link, value}
 use Rattle.rules.specs.Tree.{isChild}
 use Rattle.rules.specs.Messages.{carriesUp, installs, fromTrunk, isProbeAck}
 use Rattle.rules.specs.Configuration.{copyOk, probeOk, upOk, entryOk}
@@ -19,6 +19,7 @@ use Rattle.rules.specs.declared.State.{State}
 use Rattle.rules.specs.declared.Node.{Node}
 use Rattle.rules.specs.declared.Link.{Link}
 use Rattle.rules.specs.declared.Event.{Event}
+use Rattle.writes.proofs.Fields.{dirty, cap, kept, slotB}
 use Rattle.writes.proofs.Cases.{by-purpose, by-cap}
 use Rattle.writes.proofs.Effects.{SendProbeWrites, TakeProbeWrites, SendProbeAckWrites, TakeProbeAckWrites}
 use Rattle.writes.proofs.Needs.{TakeProbeNeeds, SendProbeAckNeeds, TakeProbeAckNeeds, all-none, no-entry}

@@ -8,7 +8,7 @@ use lib.Dec.{eqb}
 use Rattle.words.specs.Vocab.{all, choose}
 use Rattle.words.proofs.Facts.{or-right, choose-at, choose-off}
 use Rattle.rules.specs.Codes.{letGo, leaving, noChild}
-use Rattle.rules.specs.Cells.{rights, entry, node, link, dirty, value, noted}
+use Rattle.rules.specs.Cells.{rights, entry, node, link, value}
 use Rattle.rules.specs.Tree.{isChild, isLeaf}
 use Rattle.rules.specs.Messages.{carriesUp, carriesDown, isProbeAck}
 use Rattle.rules.specs.Configuration.{copyOk, serving, evicting, workOk, atLeaf, leafOk, childOk, upOk, downOk, entryOk}
@@ -17,6 +17,7 @@ use Rattle.rules.specs.Probe.{carried}
 use Rattle.rules.specs.Release.{releaseFor}
 use Rattle.rules.specs.declared.State.{State}
 use Rattle.rules.specs.declared.Event.{Event}
+use Rattle.writes.proofs.Fields.{dirty, noted}
 use Rattle.writes.proofs.Effects.{SendReleaseWrites, TakeReleaseWrites, SendReleaseAckWrites, TakeReleaseAckWrites}
 use Rattle.writes.proofs.Needs.{SendReleaseNeeds, TakeReleaseNeeds}
 use Rattle.closed.proofs.Subjects.{Own, with-main, slot-c, slot-d}

@@ -6,7 +6,7 @@ use Rattle.words.specs.Vocab.{choose}
 use Rattle.rules.specs.Codes.{nodes, rightsN, none, ask, wait, await, confirm, leaving, toLoad, toStore, toEvict, noCap, noChild, empty, grantAck, releaseAck}
 use Rattle.rules.specs.Kinds.{kindLoad, kindStore, kindLoadMiss, kindStoreMiss, kindEvict, kindSendAcquire, kindTakeAcquire, kindSendProbe, kindTakeProbe, kindSendProbeAck, kindTakeProbeAck, kindTakeGrant, kindSendGrantAck, kindSendGrant, kindTakeGrantAck, kindSendRelease, kindTakeRelease, kindSendReleaseAck, kindTakeReleaseAck}
 use Rattle.rules.specs.With.{withDirty, withValue, withPhase, withPurpose, withRequester, withProbe, withCap, withRelease, withA, withB, withE}
-use Rattle.rules.specs.Cells.{rights, entry, toProbe, pending, node, link, dirty, value, purpose, probing, cap, slotA, slotB, slotD, down, kept}
+use Rattle.rules.specs.Cells.{rights, entry, toProbe, pending, node, link, value}
 use Rattle.rules.specs.Tree.{isLeaf}
 use Rattle.rules.specs.Names.{named}
 use Rattle.rules.specs.Messages.{grantedRights, entryFor}
@@ -22,6 +22,7 @@ use Rattle.rules.specs.Step.{doneBy}
 use Rattle.rules.specs.declared.State.{State}
 use Rattle.rules.specs.declared.Node.{Node}
 use Rattle.rules.specs.declared.Event.{Event}
+use Rattle.writes.proofs.Fields.{dirty, purpose, probing, cap, slotA, slotB, slotD, down, kept}
 use Rattle.writes.proofs.Writes.{Sized, Writes, with-at, settledBy, effect-writes, with-same}
 
 -- the configuration after the kind n, which acts on the link of j

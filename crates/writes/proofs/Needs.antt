@@ -9,7 +9,7 @@ use lib.Dec.{eqb, ltb}
 use borrow.Author.Tests.{eqb-true, eqb-false, leb-true, ltb-true, not-true}
 use Rattle.words.proofs.Facts.{both, either, all-at, any-off}
 use Rattle.rules.specs.Codes.{nodes, rightsN, rightsB, none, trunk, nameB, nameTT, idle, ask, wait, confirm, give, await, letGo, leaving, noChild, empty, releaseAck}
-use Rattle.rules.specs.Cells.{cell, parent, rights, entry, toProbe, pending, node, phase, purpose, requester, probing, cap, noted, slotA, slotB, slotC, slotD, slotE, kept}
+use Rattle.rules.specs.Cells.{cell, parent, rights, entry, toProbe, pending, node}
 use Rattle.rules.specs.Tree.{childBy, isChild}
 use Rattle.rules.specs.Names.{someIn, noneIn, othersNoneIn, memberIn, named, setsEmpty, noEntries, someEntry, noOtherEntries}
 use Rattle.rules.specs.Messages.{isProbeAck, isRelease}
@@ -21,6 +21,7 @@ use Rattle.rules.specs.Grant.{grantFits, takeGrantNeeds, sendGrantAckNeeds, may
 use Rattle.rules.specs.Release.{awaits, sendReleaseNeeds, takeReleaseNeeds, sendReleaseAckNeeds, takeReleaseAckNeeds}
 use Rattle.rules.specs.declared.State.{State}
 use Rattle.rules.specs.declared.Node.{Node}
+use Rattle.writes.proofs.Fields.{phase, purpose, requester, probing, cap, noted, slotA, slotB, slotC, slotD, slotE, kept}
 
 is : (a b : ℕ) → eqb a b ≡ true → a ≡ b
 is a b = eqb-true a b

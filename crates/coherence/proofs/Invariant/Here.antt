@@ -10,11 +10,12 @@ use lib.Dec.{eqb}
 use Rattle.words.specs.Vocab.{choose}
 use Rattle.words.proofs.Facts.{either, decided, or-right}
 use Rattle.rules.specs.Codes.{nodes, rightsN, tip, none, trunk, clear, await}
-use Rattle.rules.specs.Cells.{parent, rights, entry, toProbe, pending, dirty, phase, probing, requester, slotC, kept, slotD}
+use Rattle.rules.specs.Cells.{parent, rights, entry, toProbe, pending}
 use Rattle.rules.specs.Messages.{installs, isGrant, carriesDown}
 use Rattle.rules.specs.Probe.{servesProbes}
 use Rattle.rules.specs.Release.{awaits}
 use Rattle.rules.specs.declared.State.{State}
+use Rattle.writes.proofs.Fields.{dirty, phase, probing, requester, slotC, kept, slotD}
 use Rattle.writes.proofs.Needs.{Child}
 use Rattle.writes.proofs.Accepted.{Tree, tree}
 use Rattle.writes.proofs.Views.{viewAt}

@@ -11,7 +11,7 @@ use Rattle.words.specs.Vocab.{choose}
 use Rattle.words.proofs.Facts.{either, neither, implies, decided, clash, choose-false, or-left, or-right}
 use Rattle.rules.specs.Codes.{nodes, tip, none, trunk, leaving, empty, releaseAck}
 use Rattle.rules.specs.With.{withDirty, withValue, withPhase, withRelease}
-use Rattle.rules.specs.Cells.{rights, entry, toProbe, pending, node, link, dirty, value, phase, purpose, requester, probing, noted, slotB, slotC, up, slotD}
+use Rattle.rules.specs.Cells.{rights, entry, toProbe, pending, node, link, value}
 use Rattle.rules.specs.Messages.{installs, isGrant}
 use Rattle.rules.specs.Configuration.{configurationOk}
 use Rattle.rules.specs.Scenes.{dataTaken, filledC}
@@ -20,6 +20,7 @@ use Rattle.rules.specs.Probe.{dataFits}
 use Rattle.rules.specs.declared.State.{State}
 use Rattle.rules.specs.declared.Node.{Node}
 use Rattle.rules.specs.declared.Link.{Link}
+use Rattle.writes.proofs.Fields.{dirty, phase, purpose, requester, probing, noted, slotB, slotC, up, slotD}
 use Rattle.writes.proofs.Writes.{Writes, with-at, noMembers, settledBy}
 use Rattle.writes.proofs.Needs.{Child}
 use Rattle.writes.proofs.Views.{ownView, childView}

@@ -9,12 +9,13 @@ use lib.Dec.{eqb}
 use Rattle.words.proofs.Facts.{clash}
 use Rattle.rules.specs.Codes.{nodes, none, clear, leaving}
 use Rattle.rules.specs.With.{withA, withB, withE}
-use Rattle.rules.specs.Cells.{rights, entry, toProbe, pending, node, link, dirty, value, phase, requester, probing, noted}
+use Rattle.rules.specs.Cells.{rights, entry, toProbe, pending, node, link, value}
 use Rattle.rules.specs.Probe.{servesProbes}
 use Rattle.rules.specs.Release.{awaits}
 use Rattle.rules.specs.declared.State.{State}
 use Rattle.rules.specs.declared.Node.{Node}
 use Rattle.rules.specs.declared.Link.{Link}
+use Rattle.writes.proofs.Fields.{dirty, phase, requester, probing, noted}
 use Rattle.writes.proofs.Needs.{Child}
 use Rattle.writes.proofs.Views.{ownView, childView}
 use Rattle.coherence.proofs.Invariant.Clauses.{owes, grantToken, probeToken, releaseToken, LinkOk, NodeOk, Inv}

@@ -5,12 +5,13 @@ use Prim.Native.Nat.{ℕ, _<_}
 use Rattle.words.proofs.Facts.{clash}
 use Rattle.rules.specs.Codes.{toEvict}
 use Rattle.rules.specs.With.{withPurpose}
-use Rattle.rules.specs.Cells.{rights, entry, pending, node, phase, requester}
+use Rattle.rules.specs.Cells.{rights, entry, pending, node}
 use Rattle.rules.specs.Configuration.{configurationOk}
 use Rattle.rules.specs.Local.{held}
 use Rattle.rules.specs.declared.State.{State}
 use Rattle.rules.specs.declared.Node.{Node}
 use Rattle.rules.specs.declared.Event.{Event}
+use Rattle.writes.proofs.Fields.{phase, requester}
 use Rattle.writes.proofs.Writes.{settledBy}
 use Rattle.writes.proofs.Effects.{EvictWrites}
 use Rattle.writes.proofs.Needs.{EvictNeeds}

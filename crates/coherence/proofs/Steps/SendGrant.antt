@@ -11,7 +11,7 @@ use Rattle.words.specs.Vocab.{all, choose}
 use Rattle.words.proofs.Facts.{both, either, differ, choose-true, choose-false, by-test}
 use Rattle.rules.specs.Codes.{nodes, downs, tip, none, branch, trunk, nameTT, leaving, await, toLoad, toStore, empty, grantT, grantDataT, releaseAck, shared, sole}
 use Rattle.rules.specs.With.{withPhase}
-use Rattle.rules.specs.Cells.{rights, entry, toProbe, pending, node, link, value, phase, purpose, requester, slotC, kept, slotD, slotE, noted}
+use Rattle.rules.specs.Cells.{rights, entry, toProbe, pending, node, link, value}
 use Rattle.rules.specs.Names.{named, readableName, readable, noOtherEntries}
 use Rattle.rules.specs.Messages.{isRelease, isGrant, entryFor}
 use Rattle.rules.specs.Scenes.{filledD}
@@ -21,6 +21,7 @@ use Rattle.rules.specs.Grant.{mayGrant, grantFor, grantValue}
 use Rattle.rules.specs.Release.{awaits}
 use Rattle.rules.specs.declared.State.{State}
 use Rattle.rules.specs.declared.Event.{Event}
+use Rattle.writes.proofs.Fields.{phase, purpose, requester, slotC, kept, slotD, slotE, noted}
 use Rattle.writes.proofs.Cases.{by-purpose}
 use Rattle.writes.proofs.Writes.{with-at}
 use Rattle.writes.proofs.Effects.{SendGrantWrites}

@@ -7,7 +7,7 @@ use lib.Dec.{eqb}
 use Rattle.words.specs.Vocab.{choose}
 use Rattle.words.proofs.Facts.{clash}
 use Rattle.rules.specs.Codes.{idle, empty}
-use Rattle.rules.specs.Cells.{parent, node, phase, requester, probing, slotD, slotE}
+use Rattle.rules.specs.Cells.{parent, node}
 use Rattle.rules.specs.Tree.{isLeaf}
 use Rattle.rules.specs.Messages.{isGrant}
 use Rattle.rules.specs.Configuration.{configurationOk}
@@ -17,6 +17,7 @@ use Rattle.rules.specs.Release.{awaits}
 use Rattle.rules.specs.declared.State.{State}
 use Rattle.rules.specs.declared.Node.{Node}
 use Rattle.rules.specs.declared.Event.{Event}
+use Rattle.writes.proofs.Fields.{phase, requester, probing, slotD, slotE}
 use Rattle.writes.proofs.Effects.{SendGrantAckWrites}
 use Rattle.writes.proofs.Needs.{SendGrantAckNeeds}
 use Rattle.writes.proofs.Views.{view}

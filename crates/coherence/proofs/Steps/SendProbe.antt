@@ -8,12 +8,13 @@ use native.Mathlib.Omega.{arith}
 use lib.Dec.{eqb}
 use Rattle.words.proofs.Facts.{differ, clash, choose-at, by-test, or-left}
 use Rattle.rules.specs.Codes.{nodes, clear, empty}
-use Rattle.rules.specs.Cells.{rights, entry, toProbe, pending, node, phase, purpose, probing, cap, slotB, slotC}
+use Rattle.rules.specs.Cells.{rights, entry, toProbe, pending, node}
 use Rattle.rules.specs.Messages.{isProbeAck}
 use Rattle.rules.specs.Configuration.{configurationOk}
 use Rattle.rules.specs.Probe.{capFor}
 use Rattle.rules.specs.declared.State.{State}
 use Rattle.rules.specs.declared.Event.{Event}
+use Rattle.writes.proofs.Fields.{phase, purpose, probing, cap, slotB, slotC}
 use Rattle.writes.proofs.Cases.{by-purpose}
 use Rattle.writes.proofs.Writes.{with-at}
 use Rattle.writes.proofs.Effects.{SendProbeWrites}

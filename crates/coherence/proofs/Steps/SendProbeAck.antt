@@ -9,7 +9,7 @@ use lib.Dec.{eqb, leb}
 use Rattle.words.specs.Vocab.{all}
 use Rattle.words.proofs.Facts.{and-true, choose-false}
 use Rattle.rules.specs.Codes.{nodes, ups, keeps, rightsN, tip, none, trunk, empty, probeAck, probeAckData}
-use Rattle.rules.specs.Cells.{parent, rights, entry, toProbe, pending, node, link, dirty, value, cap, slotB, slotC, kept, slotD}
+use Rattle.rules.specs.Cells.{parent, rights, entry, toProbe, pending, node, link, value}
 use Rattle.rules.specs.Messages.{installs, isProbeAck, isGrant}
 use Rattle.rules.specs.Scenes.{valueAt, filledC}
 use Rattle.rules.specs.Configuration.{configurationOk}
@@ -17,6 +17,7 @@ use Rattle.rules.specs.Probe.{capMet, fallen, carried, probeAckFor}
 use Rattle.rules.specs.declared.State.{State}
 use Rattle.rules.specs.declared.Link.{Link}
 use Rattle.rules.specs.declared.Event.{Event}
+use Rattle.writes.proofs.Fields.{dirty, cap, slotB, slotC, kept, slotD}
 use Rattle.writes.proofs.Cases.{by-cap}
 use Rattle.writes.proofs.Effects.{acked, SendProbeAckWrites}
 use Rattle.writes.proofs.Needs.{Child, SendProbeAckNeeds, all-none, no-entry}

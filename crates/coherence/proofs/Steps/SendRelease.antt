@@ -10,7 +10,7 @@ use lib.Dec.{eqb}
 use Rattle.words.specs.Vocab.{all, choose}
 use Rattle.words.proofs.Facts.{differ}
 use Rattle.rules.specs.Codes.{nodes, rightsN, tip, none, trunk, empty, release, releaseData, releaseAck}
-use Rattle.rules.specs.Cells.{parent, rights, entry, toProbe, pending, node, link, dirty, value, noted, slotC, slotD, kept}
+use Rattle.rules.specs.Cells.{parent, rights, entry, toProbe, pending, node, link, value}
 use Rattle.rules.specs.Messages.{installs, isRelease}
 use Rattle.rules.specs.Scenes.{filledC}
 use Rattle.rules.specs.Configuration.{configurationOk}
@@ -19,6 +19,7 @@ use Rattle.rules.specs.Release.{releaseFor, awaits}
 use Rattle.rules.specs.declared.State.{State}
 use Rattle.rules.specs.declared.Link.{Link}
 use Rattle.rules.specs.declared.Event.{Event}
+use Rattle.writes.proofs.Fields.{dirty, noted, slotC, slotD, kept}
 use Rattle.writes.proofs.Effects.{left, SendReleaseWrites}
 use Rattle.writes.proofs.Needs.{Child, SendReleaseNeeds}
 use Rattle.writes.proofs.Views.{view, ownView, childView}

@@ -6,12 +6,13 @@ use borrow.Author.Tests.{eq-eqb, ne-eqb}
 use lib.Dec.{eqb}
 use Rattle.rules.specs.Codes.{leaving, noChild, releaseAck}
 use Rattle.rules.specs.With.{withRelease}
-use Rattle.rules.specs.Cells.{entry, toProbe, pending, node, link, phase, noted, slotC, slotD}
+use Rattle.rules.specs.Cells.{entry, toProbe, pending, node, link}
 use Rattle.rules.specs.Messages.{isRelease, carriesDown}
 use Rattle.rules.specs.Scenes.{filledD}
 use Rattle.rules.specs.Configuration.{configurationOk}
 use Rattle.rules.specs.declared.State.{State}
 use Rattle.rules.specs.declared.Event.{Event}
+use Rattle.writes.proofs.Fields.{phase, noted, slotC, slotD}
 use Rattle.writes.proofs.Effects.{SendReleaseAckWrites}
 use Rattle.writes.proofs.Needs.{Child, SendReleaseAckNeeds}
 use Rattle.writes.proofs.Views.{viewAt, childView}

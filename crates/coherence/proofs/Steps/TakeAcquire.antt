@@ -4,7 +4,7 @@ use mathlib.Core.Bool.{Bool, true}
 use Prim.Native.Nat.{ℕ, _<_}
 use Rattle.words.proofs.Facts.{clash}
 use Rattle.rules.specs.With.{withPurpose, withRequester}
-use Rattle.rules.specs.Cells.{rights, entry, pending, node, phase, requester, slotA}
+use Rattle.rules.specs.Cells.{rights, entry, pending, node}
 use Rattle.rules.specs.Configuration.{configurationOk}
 use Rattle.rules.specs.Names.{named}
 use Rattle.rules.specs.Acquire.{purposeFor, probedFor}
@@ -12,6 +12,7 @@ use Rattle.rules.specs.Release.{awaits}
 use Rattle.rules.specs.declared.State.{State}
 use Rattle.rules.specs.declared.Node.{Node}
 use Rattle.rules.specs.declared.Event.{Event}
+use Rattle.writes.proofs.Fields.{phase, requester, slotA}
 use Rattle.writes.proofs.Writes.{settledBy}
 use Rattle.writes.proofs.Effects.{TakeAcquireWrites}
 use Rattle.writes.proofs.Needs.{Child, TakeAcquireNeeds}

@@ -10,7 +10,7 @@ use Rattle.words.specs.Vocab.{all, choose}
 use Rattle.words.proofs.Facts.{both, implies, clash, decided, choose-true, choose-false, by-test}
 use Rattle.rules.specs.Codes.{nodes, rightsN, rightsB, tip, none, confirm, empty, grantT, grantDataT, grantDataB, releaseAck}
 use Rattle.rules.specs.With.{withDirty, withValue, withPhase}
-use Rattle.rules.specs.Cells.{parent, rights, entry, toProbe, pending, node, link, value, phase, requester, noted, slotB, slotC, slotD, slotE, kept, down, probing}
+use Rattle.rules.specs.Cells.{parent, rights, entry, toProbe, pending, node, link, value}
 use Rattle.rules.specs.Messages.{installs, isProbeAck, isRelease, isGrant, carriesDown, grantedRights}
 use Rattle.rules.specs.Scenes.{installed, filledD}
 use Rattle.rules.specs.Configuration.{configurationOk}
@@ -19,6 +19,7 @@ use Rattle.rules.specs.Release.{awaits}
 use Rattle.rules.specs.declared.State.{State}
 use Rattle.rules.specs.declared.Node.{Node}
 use Rattle.rules.specs.declared.Event.{Event}
+use Rattle.writes.proofs.Fields.{phase, requester, noted, slotB, slotC, slotD, slotE, kept, down, probing}
 use Rattle.writes.proofs.Cases.{by-purpose}
 use Rattle.writes.proofs.Effects.{TakeGrantWrites}
 use Rattle.writes.proofs.Needs.{Child, TakeGrantNeeds}

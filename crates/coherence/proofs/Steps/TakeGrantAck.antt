@@ -7,13 +7,14 @@ use borrow.Author.Tests.{ne-eqb}
 use Rattle.words.specs.Vocab.{choose}
 use Rattle.words.proofs.Facts.{differ}
 use Rattle.rules.specs.Codes.{idle, noChild}
-use Rattle.rules.specs.Cells.{node, phase, requester, slotD}
+use Rattle.rules.specs.Cells.{node}
 use Rattle.rules.specs.Messages.{isGrant}
 use Rattle.rules.specs.Configuration.{configurationOk}
 use Rattle.rules.specs.Probe.{servesProbes}
 use Rattle.rules.specs.Release.{awaits}
 use Rattle.rules.specs.declared.State.{State}
 use Rattle.rules.specs.declared.Event.{Event}
+use Rattle.writes.proofs.Fields.{phase, requester, slotD}
 use Rattle.writes.proofs.Effects.{TakeGrantAckWrites}
 use Rattle.writes.proofs.Needs.{TakeGrantAckNeeds}
 use Rattle.writes.proofs.Views.{viewAt}

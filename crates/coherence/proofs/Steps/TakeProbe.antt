@@ -5,11 +5,12 @@ use Prim.Native.Nat.{ℕ, _<_}
 use lib.Dec.{eqb}
 use Rattle.words.proofs.Facts.{differ, or-right}
 use Rattle.rules.specs.Codes.{clear}
-use Rattle.rules.specs.Cells.{parent, pending, phase, probing, slotC}
+use Rattle.rules.specs.Cells.{parent, pending}
 use Rattle.rules.specs.Messages.{isProbeAck}
 use Rattle.rules.specs.Configuration.{configurationOk}
 use Rattle.rules.specs.declared.State.{State}
 use Rattle.rules.specs.declared.Event.{Event}
+use Rattle.writes.proofs.Fields.{phase, probing, slotC}
 use Rattle.writes.proofs.Effects.{TakeProbeWrites}
 use Rattle.writes.proofs.Needs.{TakeProbeNeeds}
 use Rattle.writes.proofs.Views.{view}

@@ -9,11 +9,12 @@ use lib.Dec.{eqb}
 use Rattle.words.specs.Vocab.{all}
 use Rattle.words.proofs.Facts.{both}
 use Rattle.rules.specs.Codes.{keeps, tip, trunk, leaving, empty, releaseAck}
-use Rattle.rules.specs.Cells.{toProbe, pending, node, link, phase, probing, noted, slotB, kept, slotD}
+use Rattle.rules.specs.Cells.{toProbe, pending, node, link}
 use Rattle.rules.specs.Messages.{isProbeAck, isGrant}
 use Rattle.rules.specs.Configuration.{configurationOk}
 use Rattle.rules.specs.declared.State.{State}
 use Rattle.rules.specs.declared.Event.{Event}
+use Rattle.writes.proofs.Fields.{phase, probing, noted, slotB, kept, slotD}
 use Rattle.writes.proofs.Writes.{with-at}
 use Rattle.writes.proofs.Effects.{TakeProbeAckWrites}
 use Rattle.writes.proofs.Needs.{Child, TakeProbeAckNeeds}

@@ -10,12 +10,13 @@ use Rattle.words.specs.Vocab.{all}
 use Rattle.words.proofs.Facts.{both}
 use Rattle.rules.specs.Codes.{tip, none, leaving, empty, releaseAck}
 use Rattle.rules.specs.With.{withRelease}
-use Rattle.rules.specs.Cells.{toProbe, pending, node, link, rights, phase, probing, noted, slotB, slotD}
+use Rattle.rules.specs.Cells.{toProbe, pending, node, link, rights}
 use Rattle.rules.specs.Messages.{isRelease, isGrant}
 use Rattle.rules.specs.Configuration.{configurationOk}
 use Rattle.rules.specs.declared.State.{State}
 use Rattle.rules.specs.declared.Node.{Node}
 use Rattle.rules.specs.declared.Event.{Event}
+use Rattle.writes.proofs.Fields.{phase, probing, noted, slotB, slotD}
 use Rattle.writes.proofs.Writes.{with-at}
 use Rattle.writes.proofs.Effects.{TakeReleaseWrites}
 use Rattle.writes.proofs.Needs.{Child, TakeReleaseNeeds}

@@ -6,7 +6,7 @@ use borrow.Author.Tests.{eq-eqb}
 use lib.Dec.{eqb}
 use Rattle.words.specs.Vocab.{choose}
 use Rattle.rules.specs.Codes.{leaving, empty}
-use Rattle.rules.specs.Cells.{parent, rights, node, link, phase, noted, slotC}
+use Rattle.rules.specs.Cells.{parent, rights, node, link}
 use Rattle.rules.specs.Messages.{isRelease, carriesDown}
 use Rattle.rules.specs.Scenes.{idled, filledD}
 use Rattle.rules.specs.Configuration.{configurationOk}
@@ -14,6 +14,7 @@ use Rattle.rules.specs.Probe.{servesProbes}
 use Rattle.rules.specs.Release.{awaits}
 use Rattle.rules.specs.declared.State.{State}
 use Rattle.rules.specs.declared.Event.{Event}
+use Rattle.writes.proofs.Fields.{phase, noted, slotC}
 use Rattle.writes.proofs.Effects.{TakeReleaseAckWrites}
 use Rattle.writes.proofs.Needs.{TakeReleaseAckNeeds}
 use Rattle.writes.proofs.Views.{view, ownView}
