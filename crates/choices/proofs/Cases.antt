@@ -1,4 +1,4 @@
--- How an arm of a match on a code meets a definition by cases on that code.
+-- Printed by tools/print from crates/rules/specs/Codes.antt: how an arm of a match on a code meets a definition by cases on that code.
 use mathlib.Core.Path.{_≡_}
 use Prim.Native.Nat.{ℕ, zero, suc}
 use borrow.Author.Tests.{ne-eqb}

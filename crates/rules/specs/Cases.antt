@@ -1,5 +1,5 @@
--- One case for each code of a list. A new code is a new field here, and antt then names every definition that has no case for it.
--- `outside` is for a code outside its list.
+-- Printed by tools/print from crates/rules/specs/Codes.antt: one case for each code of a list, and `outside` for a code outside it. A new
+-- code is a new field here, and antt then names every definition that has no case for it.
 use Prim.Native.Nat.{ℕ}
 use lib.Dec.{eqb}
 use Rattle.words.specs.Vocab.{choose}

@@ -1,4 +1,4 @@
--- A definition by cases on a code, taken case by case.
+-- Printed by tools/print from crates/rules/specs/Codes.antt: a definition by cases on a code, taken case by case.
 use mathlib.Core.Path.{_≡_}
 use Prim.Native.Nat.{ℕ}
 use borrow.Author.Tests.{eqb-true}
