@@ -6,8 +6,6 @@ use Prim.Native.Nat.{ℕ}
 use borrow.Author.Tests.{ne-eqb}
 use lib.Dec.{eqb}
 use Rattle.words.proofs.Facts.{neither, choose-false}
-use Rattle.words.proofs.Laws.{Rest}
-use Rattle.rules.specs.Kinds.{kindLoad, kindStore, kindLoadMiss, kindStoreMiss, kindEvict, kindSendAcquire, kindTakeAcquire, kindSendProbe, kindTakeProbe, kindSendProbeAck, kindTakeProbeAck, kindTakeGrant, kindSendGrantAck, kindSendGrant, kindTakeGrantAck, kindSendRelease, kindTakeRelease, kindSendReleaseAck, kindTakeReleaseAck}
 use Rattle.rules.specs.Table.{Kind, kinds, listed, numbered, noKind, isKind, kindOf}
 use Rattle.rules.specs.declared.Event.{Event}
 use Rattle.rules.specs.declared.Scene.{Scene}
@@ -30,15 +28,24 @@ module _ {n k : ℕ} (h : n ≡ k) where
   pub says-at : {x : ℕ} (v : Scene) → x ≡ kindOf k .says v → x ≡ kindOf n .says v
   says-at {x} v g = subst (λ (m : ℕ). x ≡ kindOf m .says v) (sym h) g
 
--- no arm found it
-pub unlisted : (n : ℕ) → Rest n 19 → isKind n ≡ false
+-- what a match's `_` knows after an arm for each of these kinds, P before them
+abbrev Missed : ℕ → Type 0 → List Kind → Type 0
+Missed n P [] = P
+Missed n P (k ∷ ks) = Missed n (P × (n ≡ k .number → ⊥)) ks
+
+missed-list : (n : ℕ) (P : Type 0) (ks : List Kind) → Missed n P ks → P × (listed ks n ≡ false)
 unfolding listed
-unlisted n r = rw (ne-eqb n kindLoad (r .0 .0 .0 .0 .0 .0 .0 .0 .0 .0 .0 .0 .0 .0 .0 .0 .0 .0 .1), ne-eqb n kindStore (r .0 .0 .0 .0 .0 .0 .0 .0 .0 .0 .0 .0 .0 .0 .0 .0 .0 .1), ne-eqb n kindLoadMiss (r .0 .0 .0 .0 .0 .0 .0 .0 .0 .0 .0 .0 .0 .0 .0 .0 .1), ne-eqb n kindStoreMiss (r .0 .0 .0 .0 .0 .0 .0 .0 .0 .0 .0 .0 .0 .0 .0 .1), ne-eqb n kindEvict (r .0 .0 .0 .0 .0 .0 .0 .0 .0 .0 .0 .0 .0 .0 .1), ne-eqb n kindSendAcquire (r .0 .0 .0 .0 .0 .0 .0 .0 .0 .0 .0 .0 .0 .1), ne-eqb n kindTakeAcquire (r .0 .0 .0 .0 .0 .0 .0 .0 .0 .0 .0 .0 .1), ne-eqb n kindSendProbe (r .0 .0 .0 .0 .0 .0 .0 .0 .0 .0 .0 .1), ne-eqb n kindTakeProbe (r .0 .0 .0 .0 .0 .0 .0 .0 .0 .0 .1), ne-eqb n kindSendProbeAck (r .0 .0 .0 .0 .0 .0 .0 .0 .0 .1), ne-eqb n kindTakeProbeAck (r .0 .0 .0 .0 .0 .0 .0 .0 .1), ne-eqb n kindTakeGrant (r .0 .0 .0 .0 .0 .0 .0 .1), ne-eqb n kindSendGrantAck (r .0 .0 .0 .0 .0 .0 .1), ne-eqb n kindSendGrant (r .0 .0 .0 .0 .0 .1), ne-eqb n kindTakeGrantAck (r .0 .0 .0 .0 .1), ne-eqb n kindSendRelease (r .0 .0 .0 .1), ne-eqb n kindTakeRelease (r .0 .0 .1), ne-eqb n kindSendReleaseAck (r .0 .1), ne-eqb n kindTakeReleaseAck (r .1))
+missed-list n P [] r = (r, refl)
+missed-list n P (k ∷ ks) r = let u = missed-list n (P × (n ≡ k .number → ⊥)) ks r in (u .0 .0, rw (ne-eqb n (k .number) (u .0 .1)) (u .1))
+
+-- no arm found it
+pub unlisted : (n : ℕ) → Missed n (Unit {0}) kinds → isKind n ≡ false
+unlisted n r = missed-list n (Unit {0}) kinds r .1
 
 numbered-off : (ks : List Kind) (n : ℕ) → listed ks n ≡ false → numbered ks n ≡ noKind
 unfolding listed numbered
 numbered-off [] n h = refl
 numbered-off (k ∷ ks) n h = let u = neither (eqb n (k .number)) (listed ks n) h in choose-false _ _ (u .0) ∙ numbered-off ks n (u .1)
 
-pub no-kind : (n : ℕ) → Rest n 19 → kindOf n ≡ noKind
+pub no-kind : (n : ℕ) → Missed n (Unit {0}) kinds → kindOf n ≡ noKind
 no-kind n r = numbered-off kinds n (unlisted n r)
