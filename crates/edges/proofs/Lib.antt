@@ -1,2 +1,1 @@
 pub mod Starred
-pub mod Whole

@@ -1,1 +1,1 @@
-// The cases of document 01, computed from the definitions. No code.
+// The starred cases of document 01, proved from the definitions. No code.
