@@ -23,6 +23,10 @@ pub name-none : (r : ℕ) (trunks branches : Bool) → r ≡ rightsN → nameN �
 unfolding nameOf choose
 name-none r trunks branches h = rw h
 
+-- a name from what was found of the row
+pub named-by : {r r′ n : ℕ} {t t′ b b′ : Bool} → n ≡ nameOf r t b → r ≡ r′ → t ≡ t′ → b ≡ b′ → n ≡ nameOf r′ t′ b′
+named-by h p q g = rw (← p, ← q, ← g) h
+
 -- a scene from what was found of the row
 pub seen : (r : ℕ) (m : Node) (l : Link) (e : ℕ) (w u : Bool) {a b c d f g a′ b′ c′ d′ f′ g′ : Bool}
     → a ≡ a′ → b ≡ b′ → c ≡ c′ → d ≡ d′ → f ≡ f′ → g ≡ g′
