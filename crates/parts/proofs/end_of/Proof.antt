@@ -10,4 +10,4 @@ end-of-spec =
     (λ c κs. search needs)
     (λ c κs. search needs)
     (λ c κs. search needs)
-    (λ c. ((cc), c .index .ensures .1)))
+    (λ c. let k = c .before in (rw (c .index .ensures .0, k .end-number .ensures, k .before .row-of .ensures), c .index .ensures .1)))

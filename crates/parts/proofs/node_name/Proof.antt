@@ -1,4 +1,5 @@
 use borrow.Author.Needs.{needs}
+use Rattle.parts.proofs.Landing.{named-by}
 use Rattle.parts.proofs.node_name.Statement.{statement}
 use Rattle.parts.proofs.node_name.Tie as tie
 
@@ -8,4 +9,4 @@ node-name-spec =
     (λ c κs. search needs)
     (λ c κs. search needs)
     (λ c κs. search needs)
-    (λ c. cc))
+    (λ c. search named-by))

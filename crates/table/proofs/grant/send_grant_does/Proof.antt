@@ -10,4 +10,4 @@ send-grant-does-spec =
     (λ c κs. search needs)
     (λ c κs. search needs)
     (λ c κs. search needs)
-    (λ c. cc))
+    (λ c. let v = c .before in rw (c .entry-for .ensures, v .grant-value .ensures, v .before .grant-for .ensures)))

@@ -11,4 +11,6 @@ send-probe-ack-does-spec =
     (λ c κs. search needs)
     (λ c κs. search needs)
     (λ c κs. search needs)
-    (λ c. cc))
+    (λ c. let v = c .before in
+    let m = v .before in
+    rw (c .value-at .ensures, v .carried .ensures, m .probe-ack-for .ensures, m .before .fallen .ensures)))
