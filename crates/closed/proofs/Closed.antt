@@ -6,7 +6,7 @@ use Prim.Native.Nat.{ℕ, _<_}
 use borrow.Author.Tests.{eqb-false, not-true}
 use lib.Dec.{eqb}
 use Rattle.words.specs.Vocab.{choose}
-use Rattle.rules.specs.Codes.{nodes, accepts}
+use Rattle.rules.specs.Codes.{nodeLimit, accepts}
 use Rattle.rules.specs.Cells.{node}
 use Rattle.rules.specs.Tree.{goodTree, isChild, isLeaf}
 use Rattle.rules.specs.Configuration.{configurationOk}
@@ -30,7 +30,7 @@ use Rattle.closed.proofs.Release.{send-release-keeps, take-release-keep
 -- the kind gives a configuration, where it is in place, its link is there and its needs hold
 abbrev Keeps : Kind → Type 0
 Keeps k =
-    (s : State) (e : Event) → Here s (e .node) → Sized s → e .node < nodes → placeFits (k .row .place) (isLeaf s (e .node)) (e .node) ≡ true
+    (s : State) (e : Event) → Here s (e .node) → Sized s → e .node < nodeLimit → placeFits (k .row .place) (isLeaf s (e .node)) (e .node) ≡ true
     → otherFits (k .row .other) (isChild s (e .node) (e .other)) (e .other) ≡ true
     → linkThere (k .row .end) (isChild s (e .node) (linkOf k s e)) ≡ true → k .needs (sceneOf s (e .node) (linkOf k s e)) e ≡ true → Kept s (done k s e)
 

@@ -8,7 +8,7 @@ use native.Mathlib.Omega.{arith}
 use borrow.Author.Tests.{lt-ltb}
 use lib.Dec.{eqb, ltb}
 use Rattle.words.proofs.Facts.{both, and-true, or-left, any-at}
-use Rattle.rules.specs.Codes.{nodes}
+use Rattle.rules.specs.Codes.{nodeLimit}
 use Rattle.rules.specs.Cells.{parent, rights, node, link}
 use Rattle.rules.specs.Tree.{leafIn, isChild, isLeaf}
 use Rattle.rules.specs.Configuration.{standsOk, slotsEmpty, configurationOk}
@@ -32,7 +32,7 @@ pub record Here (s : State) (x : ℕ) : Type 0 where
   pub sized : Sized s
   pub configuration : configurationOk s ≡ true
   pub inside : x < s .count
-  pub most : s .count ≤ nodes
+  pub most : s .count ≤ nodeLimit
 
 -- a node of the tree other than the root
 pub record Below (s : State) (j : ℕ) : Type 0 where
@@ -44,7 +44,7 @@ pub record Right (s : State) (x j r : ℕ) (m : Node) (l : Link) (es : ℕ → �
   pub place : (l ≡ link s j) ⊎ Below s j
   pub own : Own (isLeaf s x) (isChild s x) r m
   pub link : Slots l
-  pub pairs : (k : ℕ) → k < nodes → Pair r (isChild s x k) (es k) (ws k) (ps k)
+  pub pairs : (k : ℕ) → k < nodeLimit → Pair r (isChild s x k) (es k) (ws k) (ps k)
 
 -- where a node stands: below the root, or with no message on its link; beyond the last node it is blank
 stands-below : (n y p r : ℕ) (m : Node) (l : Link) → y < n → y ≢ 0 → standsOk n y p r m l ≡ true
@@ -105,13 +105,13 @@ module _ {s t : State} {x j r : ℕ} {m : Node} {l : Link} {es : ℕ → ℕ} {w
     configuration = from-fits t λ y b. go y b (ℕ-discrete y x);
   }
     where
-      go : (y : ℕ) → y < nodes → Dec (y ≡ x) → Fits t y
+      go : (y : ℕ) → y < nodeLimit → Dec (y ≡ x) → Fits t y
       go y b (yes e) = rw e (here (fits s (h .configuration) x (rw e at b)))
       go y b (no o) = there y o (fits s (h .configuration) y b)
 
 -- at a step: x has its place in the arrays, and number 2 finds nothing there
 module _ {s : State} {x : ℕ} (h : Here s x) where
-  pub in-array : x < nodes
+  pub in-array : x < nodeLimit
   in-array = omega (arith, h .inside, h .most)
 
   pub own-fits : Fits s x
@@ -125,7 +125,7 @@ module _ {s : State} {x : ℕ} (h : Here s x) where
     pub child-below : Below s k
     child-below = let u = child s x k c in record { inside = u .inside; below = u .below }
 
-    pub child-array : k < nodes
+    pub child-array : k < nodeLimit
     child-array = omega (arith, child-below .inside, h .most)
 
     pub child-link : Slots (link s k)
@@ -133,4 +133,4 @@ module _ {s : State} {x : ℕ} (h : Here s x) where
 
     pub not-leaf : isLeaf s x ≡ false
     unfolding leafIn
-    not-leaf = rw (any-at (isChild s x) nodes k child-array c)
+    not-leaf = rw (any-at (isChild s x) nodeLimit k child-array c)

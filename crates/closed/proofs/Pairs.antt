@@ -9,7 +9,7 @@ use borrow.Author.Tests.{eqb-true, le-leb}
 use lib.Dec.{eqb, leb}
 use Rattle.words.specs.Vocab.{all}
 use Rattle.words.proofs.Facts.{both, and-true}
-use Rattle.rules.specs.Codes.{nodes, levels, none, trunk}
+use Rattle.rules.specs.Codes.{nodeLimit, levels, none, trunk}
 use Rattle.rules.specs.Configuration.{memberOk, entryOk}
 use Rattle.closed.proofs.Tables.{Table3, by-three}
 use Rattle.closed.proofs.Subjects.{Pair, entry-code}
@@ -56,9 +56,9 @@ module _ {r e : ℕ} {child listed waits : Bool} (p : Pair r child e listed wait
       by-three above (λ r e e′. entryOk r e′) levels levels levels falls r e e′ hr b (omega arith) (and-true _ _ (le-leb e′ e l) (p .entry))
 
 -- the rows change at the child k, where the entry becomes e
-pub child-pairs : {r : ℕ} {child : ℕ → Bool} {es : ℕ → ℕ} {ws ps : ℕ → Bool} → ((j : ℕ) → j < nodes → Pair r (child j) (es j) (ws j) (ps j))
+pub child-pairs : {r : ℕ} {child : ℕ → Bool} {es : ℕ → ℕ} {ws ps : ℕ → Bool} → ((j : ℕ) → j < nodeLimit → Pair r (child j) (es j) (ws j) (ps j))
     → (k : ℕ) → child k ≡ true → {es′ : ℕ → ℕ} {ws′ ps′ : ℕ → Bool} → ((j : ℕ) → j ≢ k → (es′ j ≡ es j) × (ws′ j ≡ ws j) × (ps′ j ≡ ps j))
-    → {e : ℕ} → es′ k ≡ e → e < levels → entryOk r e ≡ true → (j : ℕ) → j < nodes → Pair r (child j) (es′ j) (ws′ j) (ps′ j)
+    → {e : ℕ} → es′ k ≡ e → e < levels → entryOk r e ≡ true → (j : ℕ) → j < nodeLimit → Pair r (child j) (es′ j) (ws′ j) (ps′ j)
 unfolding memberOk
 child-pairs {r} {child} {es} {ws} {ps} old k c {es′} {ws′} {ps′} off {e} at b h j l = go (ℕ-discrete j k)
   where

@@ -13,7 +13,7 @@ use lib.Seq.{getD-set-other}
 use lib.Dec.{eqb, leb, ltb}
 use Rattle.words.specs.Vocab.{fill, choose}
 use Rattle.words.proofs.Facts.{both, and-true, or-left, or-right, by-test, all-at, all-from, getD-fill-at}
-use Rattle.rules.specs.Codes.{nodes, cells, rightsN, tip, none, accepts}
+use Rattle.rules.specs.Codes.{nodeLimit, cells, rightsN, tip, none, accepts}
 use Rattle.rules.specs.With.{withValue}
 use Rattle.rules.specs.Cells.{blankNode, blankLink, cell, rights, entry, toProbe, pending, node, link}
 use Rattle.rules.specs.Tree.{parentOk, treeOk, goodTree, isChild}
@@ -29,18 +29,18 @@ use Rattle.closed.proofs.Fits.{Fits, from-fits}
 use Rattle.closed.proofs.Work.{idle-main}
 
 -- the parents that reset writes
-parent-at : (n : ℕ) (ps : List ℕ) (k : ℕ) → k < nodes → getD (treeParents n ps) k 0 ≡ treeParent n ps k
+parent-at : (n : ℕ) (ps : List ℕ) (k : ℕ) → k < nodeLimit → getD (treeParents n ps) k 0 ≡ treeParent n ps k
 unfolding treeParents
 parent-at n ps k h =
-    let l : 0 + nodes ≤ length {A = ℕ} (replicate nodes 0) = omega (arith, length-replicate {A = ℕ} nodes 0) in
-    rw zero-add at (getD-fill-at (treeParent n ps) 0 nodes (replicate nodes 0) 0 k l h)
+    let l : 0 + nodeLimit ≤ length {A = ℕ} (replicate nodeLimit 0) = omega (arith, length-replicate {A = ℕ} nodeLimit 0) in
+    rw zero-add at (getD-fill-at (treeParent n ps) 0 nodeLimit (replicate nodeLimit 0) 0 k l h)
 
 -- the tree is as good as the one that was given
 parents-tree : (n : ℕ) (ps : List ℕ) → treeOk n ps ≡ true → treeOk n (treeParents n ps) ≡ true
 unfolding treeOk treeParent
 parents-tree n ps h =
-    let u = both (leb 2 n && leb n nodes) _ h in
-    and-true _ _ (u .0) (all-from (parentOk n (treeParents n ps)) nodes λ k b. rw (parent-at n ps k b) (go k (all-at (parentOk n ps) nodes k (u .1) b)))
+    let u = both (leb 2 n && leb n nodeLimit) _ h in
+    and-true _ _ (u .0) (all-from (parentOk n (treeParents n ps)) nodeLimit λ k b. rw (parent-at n ps k b) (go k (all-at (parentOk n ps) nodeLimit k (u .1) b)))
   where
     go : (k : ℕ) → parentOk n ps k ≡ true → (eqb k 0 || leb n k || ltb (treeParent n ps k) k) ≡ true
     go k g =
@@ -51,7 +51,7 @@ parents-tree n ps h =
         Ok p = (eqb k 0 || leb n k || ltb p k) ≡ true
 
 -- a node with an empty link stands where it may: where the parent is not the given one it is 0
-start-stands : (n : ℕ) (ps : List ℕ) (y r : ℕ) (m : Node) → y < nodes → (ltb y n || blank r m) ≡ true
+start-stands : (n : ℕ) (ps : List ℕ) (y r : ℕ) (m : Node) → y < nodeLimit → (ltb y n || blank r m) ≡ true
     → standsOk n y (getD (treeParents n ps) y 0) r m blankLink ≡ true
 unfolding standsOk slotsEmpty treeParent
 start-stands n ps y r m b h =
@@ -77,20 +77,20 @@ module _ (n : ℕ) (ps : List ℕ) (v : ℕ) where
   unfolding startOf
   root-fields = refl
 
-  pub start-link : (y : ℕ) → y < nodes → link (startOf n ps v) y ≡ blankLink
+  pub start-link : (y : ℕ) → y < nodeLimit → link (startOf n ps v) y ≡ blankLink
   unfolding startOf
-  start-link y h = getD-replicate nodes y blankLink blankLink h
+  start-link y h = getD-replicate nodeLimit y blankLink blankLink h
 
-  module _ (y : ℕ) (h : y < nodes) (o : y ≢ 0) where
+  module _ (y : ℕ) (h : y < nodeLimit) (o : y ≢ 0) where
     pub start-rights : rights (startOf n ps v) y ≡ rightsN
     unfolding startOf
-    start-rights = getD-set-other (replicate nodes 0) 0 y tip 0 o ∙ getD-replicate nodes y 0 0 h
+    start-rights = getD-set-other (replicate nodeLimit 0) 0 y tip 0 o ∙ getD-replicate nodeLimit y 0 0 h
 
     pub start-fields : node (startOf n ps v) y ≡ blankNode
     unfolding startOf
-    start-fields = getD-set-other (replicate nodes blankNode) 0 y (withValue blankNode v) blankNode o ∙ getD-replicate nodes y blankNode blankNode h
+    start-fields = getD-set-other (replicate nodeLimit blankNode) 0 y (withValue blankNode v) blankNode o ∙ getD-replicate nodeLimit y blankNode blankNode h
 
-  module _ (y k : ℕ) (h : y < nodes) (b : k < nodes) where
+  module _ (y k : ℕ) (h : y < nodeLimit) (b : k < nodeLimit) where
     l : cell y k < cells
     l = omega arith
 
@@ -120,7 +120,7 @@ unfolding memberOk entryOk
 blank-pair r child = record { member = or-true child; entry = refl }
 
 module _ (n : ℕ) (ps : List ℕ) (v : ℕ) (g : treeOk n ps ≡ true) where
-  start-pair : (y k : ℕ) → y < nodes → k < nodes
+  start-pair : (y k : ℕ) → y < nodeLimit → k < nodeLimit
       → Pair (rights (startOf n ps v) y) (isChild (startOf n ps v) y k) (entry (startOf n ps v) y k) (toProbe (startOf n ps v) y k) (pending (startOf n ps v) y k)
   start-pair y k h b = rw (start-entry n ps v y k h b, start-listed n ps v y k h b, start-waits n ps v y k h b) (blank-pair _ _)
 
@@ -135,7 +135,7 @@ module _ (n : ℕ) (ps : List ℕ) (v : ℕ) (g : treeOk n ps ≡ true) where
         pairs = λ k b. start-pair 0 k (omega arith) b;
       }
 
-  rest-fits : (y : ℕ) → y < nodes → y ≢ 0 → Fits (startOf n ps v) y
+  rest-fits : (y : ℕ) → y < nodeLimit → y ≢ 0 → Fits (startOf n ps v) y
   unfolding startOf copyOk blank
   rest-fits y h o =
       let r = start-rights n ps v y h o in
@@ -155,7 +155,7 @@ module _ (n : ℕ) (ps : List ℕ) (v : ℕ) (g : treeOk n ps ≡ true) where
   pub start-configuration : configurationOk (startOf n ps v) ≡ true
   start-configuration = from-fits (startOf n ps v) λ y h. go y h (ℕ-discrete y 0)
     where
-      go : (y : ℕ) → y < nodes → Dec (y ≡ 0) → Fits (startOf n ps v) y
+      go : (y : ℕ) → y < nodeLimit → Dec (y ≡ 0) → Fits (startOf n ps v) y
       go y h (yes e) = rw e root-fits
       go y h (no o) = rest-fits y h o
 

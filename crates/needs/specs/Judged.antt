@@ -4,7 +4,7 @@ use mathlib.Core.Bool.{Bool, not, _&&_}
 use mathlib.Core.List.{List, [], _∷_}
 use Prim.Native.Nat.{ℕ}
 use lib.Dec.{leb, ltb}
-use Rattle.rules.specs.Codes.{nodes, badTree, badEvent, wrongPlace, outOfTurn}
+use Rattle.rules.specs.Codes.{nodeLimit, badTree, badEvent, wrongPlace, outOfTurn}
 use Rattle.rules.specs.Tree.{childIn}
 use Rattle.rules.specs.Table.{isKind, kindOf}
 use Rattle.rules.specs.Events.{otherFits, valueFits, placeFits}
@@ -28,5 +28,5 @@ turnIn n ps r v x j e = linkThere (r .end) (childIn n ps x j) && kindOf (e .kind
 unfoldable pub numberIn : ℕ → List ℕ → Row → Scene → ℕ → ℕ → Event → ℕ
 numberIn n ps r v x j e =
     firstOf
-    (refusal badTree (not (leb n nodes)) ∷ refusal badEvent (not (eventIn n ps r e)) ∷ refusal wrongPlace (not (placeIn r v e))
+    (refusal badTree (not (leb n nodeLimit)) ∷ refusal badEvent (not (eventIn n ps r e)) ∷ refusal wrongPlace (not (placeIn r v e))
     ∷ refusal outOfTurn (not (turnIn n ps r v x j e)) ∷ [])

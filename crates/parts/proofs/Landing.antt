@@ -8,7 +8,7 @@ use lib.ListN.{List·getD-eq-default, length, getD}
 use borrow.Author.Tests.{eq-eqb, ne-eqb}
 use Rattle.words.specs.Vocab.{choose}
 use Rattle.words.proofs.Facts.{choose-true, choose-false}
-use Rattle.rules.specs.Codes.{nodes, rightsN, nameN, accepts}
+use Rattle.rules.specs.Codes.{nodeLimit, rightsN, nameN, accepts}
 use Rattle.rules.specs.Names.{nameOf}
 use Rattle.rules.specs.Table.{kindOf}
 use Rattle.rules.specs.declared.Event.{Event}
@@ -21,7 +21,7 @@ use Rattle.rules.specs.declared.Link.{Link}
 use Rattle.rules.specs.declared.Scene.{Scene}
 
 -- past the rights there is no node, and it is named N
-pub name-none : (rs : List ℕ) (i : ℕ) (trunks branches : Bool) → length rs ≡ nodes → nodes ≤ i → nameN ≡ nameOf (getD rs i rightsN) trunks branches
+pub name-none : (rs : List ℕ) (i : ℕ) (trunks branches : Bool) → length rs ≡ nodeLimit → nodeLimit ≤ i → nameN ≡ nameOf (getD rs i rightsN) trunks branches
 unfolding nameOf choose
 name-none rs i trunks branches e h = let l : length rs ≤ i = omega arith in rw (List·getD-eq-default rs rightsN l)
 

@@ -13,7 +13,7 @@ use lib.Dec.{eqb, leb, ltb}
 use Rattle.words.specs.Vocab.{choose}
 use Rattle.words.proofs.Laws.{tests}
 use Rattle.words.proofs.Facts.{both, decided, choose-true, choose-false}
-use Rattle.rules.specs.Codes.{nodes, accepts, badTree, notAConfiguration, badEvent, wrongPlace, outOfTurn}
+use Rattle.rules.specs.Codes.{nodeLimit, accepts, badTree, notAConfiguration, badEvent, wrongPlace, outOfTurn}
 use Rattle.rules.specs.Cells.{node, link}
 use Rattle.rules.specs.Tree.{treeOk, goodTree, childBy}
 use Rattle.rules.specs.Configuration.{configurationOk}
@@ -64,13 +64,13 @@ module _ (s : State) (e : Event) where
       go (inr h) = ap (whole s x j) (choose-false _ _ h) ∙ put-back x j (number x j) ∙ sym (choose-false _ _ h)
 
 -- an index within the arrays, and one beyond them
-index-in : (k : ℕ) → k < nodes → indexOf k ≡ k
+index-in : (k : ℕ) → k < nodeLimit → indexOf k ≡ k
 unfolding indexOf
-index-in k h = choose-true k 0 (lt-ltb k nodes h)
+index-in k h = choose-true k 0 (lt-ltb k nodeLimit h)
 
-index-off : (k : ℕ) → nodes ≤ k → indexOf k ≡ 0
+index-off : (k : ℕ) → nodeLimit ≤ k → indexOf k ≡ 0
 unfolding indexOf
-index-off k h = choose-false k 0 (le-ltb k nodes h)
+index-off k h = choose-false k 0 (le-ltb k nodeLimit h)
 
 -- no child stands beyond the arrays, and none is the root
 no-child : (n p x k : ℕ) → (n ≤ k) ⊎ (k ≡ 0) → childBy n p x k ≡ false
@@ -79,7 +79,7 @@ no-child n p x k (inl h) = rw (le-ltb k n h)
 no-child n p x k (inr h) = rw (h, and-false (ltb 0 n))
 
 -- a child's link that is not there
-not-there : (d : End) (m : Node) (x o : ℕ) → x < nodes → nodes ≤ endOf d m x o → linkThere d false ≡ false
+not-there : (d : End) (m : Node) (x o : ℕ) → x < nodeLimit → nodeLimit ≤ endOf d m x o → linkThere d false ≡ false
 unfolding linkThere endOf
 not-there Own m x o h l = absurd (omega arith)
 not-there Named m x o h l = refl
@@ -102,12 +102,12 @@ module _ (s : State) (e : Event) where
   j₀ = endIn e (node s (indexOf (e .node)))
 
   -- both refuse with the same number
-  same-refusal : (k : ℕ) → k ≢ accepts → number s e x₀ j₀ ≡ k → firstOf (refusal badTree (not (leb (s .count) nodes)) ∷ eventRefusals s e) ≡ k
+  same-refusal : (k : ℕ) → k ≢ accepts → number s e x₀ j₀ ≡ k → firstOf (refusal badTree (not (leb (s .count) nodeLimit)) ∷ eventRefusals s e) ≡ k
       → answer s e (number s e x₀ j₀) x₀ j₀ ≡ movedOf s e
   unfolding movedOf answerOf
   same-refusal k n f g = rw (f, g) (choose-false _ _ (ne-eqb k accepts n) ∙ sym (choose-false _ _ (ne-eqb k accepts n)))
 
-  module _ (small : s .count ≤ nodes) (good : eventOk s e ≡ true) where
+  module _ (small : s .count ≤ nodeLimit) (good : eventOk s e ≡ true) where
     inside : e .node < s .count
     unfolding eventOk
     inside = ltb-true _ _ (both (isKind (e .kind)) _ (both (isKind (e .kind) && ltb (e .node) (s .count)) _ (both _ (valueFits (kindOf (e .kind) .row .value) (e .value)) good .0) .0) .1)
@@ -120,29 +120,29 @@ module _ (s : State) (e : Event) where
     at-end = rw at-node
 
     -- the link is within the arrays: the same scene
-    here : endAt s e < nodes → answer s e (number s e x₀ j₀) x₀ j₀ ≡ movedOf s e
+    here : endAt s e < nodeLimit → answer s e (number s e x₀ j₀) x₀ j₀ ≡ movedOf s e
     unfolding movedOf answerOf numberIn eventOk placeOk turnOk nextOf valueOf
     here h = rw (at-end, at-node, index-in (endAt s e) h)
 
     -- it is not, and both refuse
-    off : nodes ≤ endAt s e → answer s e (number s e x₀ j₀) x₀ j₀ ≡ movedOf s e
+    off : nodeLimit ≤ endAt s e → answer s e (number s e x₀ j₀) x₀ j₀ ≡ movedOf s e
     unfolding numberIn eventOk placeOk turnOk
-    off h = same-refusal _ (last-applies (not (leb (s .count) nodes)) (not (eventOk s e)) (not (placeOk s e))) (rw (at-end, at-node, index-off (endAt s e) h, no-child (s .count) (getD (s .parents) 0 0) (e .node) 0 (inr refl), gone)) (rw (no-child (s .count) (getD (s .parents) (endAt s e) 0) (e .node) (endAt s e) (inl (omega arith)), gone))
+    off h = same-refusal _ (last-applies (not (leb (s .count) nodeLimit)) (not (eventOk s e)) (not (placeOk s e))) (rw (at-end, at-node, index-off (endAt s e) h, no-child (s .count) (getD (s .parents) 0 0) (e .node) 0 (inr refl), gone)) (rw (no-child (s .count) (getD (s .parents) (endAt s e) 0) (e .node) (endAt s e) (inl (omega arith)), gone))
       where
         gone : linkThere (kindOf (e .kind) .row .end) false ≡ false
         gone = not-there (kindOf (e .kind) .row .end) (node s (e .node)) (e .node) (e .other) (let l = inside in omega arith) h
 
   moved-at : answer s e (number s e x₀ j₀) x₀ j₀ ≡ movedOf s e
   unfolding numberIn firstOf choose eventOk
-  moved-at = go (decided (leb (s .count) nodes)) (decided (eventOk s e))
+  moved-at = go (decided (leb (s .count) nodeLimit)) (decided (eventOk s e))
     where
-      go : (leb (s .count) nodes ≡ true) ⊎ (leb (s .count) nodes ≡ false) → (eventOk s e ≡ true) ⊎ (eventOk s e ≡ false)
+      go : (leb (s .count) nodeLimit ≡ true) ⊎ (leb (s .count) nodeLimit ≡ false) → (eventOk s e ≡ true) ⊎ (eventOk s e ≡ false)
           → answer s e (number s e x₀ j₀) x₀ j₀ ≡ movedOf s e
       go (inr d) b = same-refusal badTree (λ z. omega arith) (rw d) (rw d)
       go (inl d) (inr b) = same-refusal badEvent (λ z. omega arith) (rw (d, b)) (rw (d, b))
-      go (inl d) (inl b) = at (decLt (endAt s e) nodes)
+      go (inl d) (inl b) = at (decLt (endAt s e) nodeLimit)
         where
-          at : Dec (endAt s e < nodes) → answer s e (number s e x₀ j₀) x₀ j₀ ≡ movedOf s e
+          at : Dec (endAt s e < nodeLimit) → answer s e (number s e x₀ j₀) x₀ j₀ ≡ movedOf s e
           at (yes h) = here (leb-true _ _ d) b h
           at (no h) = off (leb-true _ _ d) b (omega arith)
 
@@ -159,9 +159,9 @@ moves s e {x} {j} p q d =
     (rw (q, p) (at-place s e (indexOf (e .node)) (endIn e (node s (indexOf (e .node)))) ∙ moved-at s e))
 
 -- a good tree is within the node limit
-pub within-limit : (s : State) → goodTree s ≡ true → leb (s .count) nodes ≡ true
+pub within-limit : (s : State) → goodTree s ≡ true → leb (s .count) nodeLimit ≡ true
 unfolding treeOk
-within-limit s h = both (leb 2 (s .count)) _ (both (leb 2 (s .count) && leb (s .count) nodes) _ h .0) .1
+within-limit s h = both (leb 2 (s .count)) _ (both (leb 2 (s .count) && leb (s .count) nodeLimit) _ h .0) .1
 
 -- the step, by the code's tests one after the other
 module _ (s : State) (e : Event) {a : Answer} where

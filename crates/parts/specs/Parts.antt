@@ -7,7 +7,7 @@ use Prim.Native.Nat.{ℕ}
 use lib.ListN.{getD, set}
 use lib.Dec.{eqb, leb, ltb}
 use Rattle.words.specs.Vocab.{choose}
-use Rattle.rules.specs.Codes.{nodes, trunk, branch, accepts, badTree}
+use Rattle.rules.specs.Codes.{nodeLimit, trunk, branch, accepts, badTree}
 use Rattle.rules.specs.Cells.{cell}
 use Rattle.rules.specs.Tree.{leafIn}
 use Rattle.rules.specs.Names.{someIn, noneIn, othersNoneIn, setsEmptyIn}
@@ -25,7 +25,7 @@ use Rattle.parts.specs.declared.Acted.{Acted}
 
 -- an index from a byte: 0 where it is none
 unfoldable pub indexOf : ℕ → ℕ
-indexOf k = choose (ltb k nodes) k 0
+indexOf k = choose (ltb k nodeLimit) k 0
 
 -- the node whose link the event acts on; m is the node at which it happens
 unfoldable pub endIn : Event → Node → ℕ
@@ -38,7 +38,7 @@ sceneIn n ps rs es ws us m l x j =
 
 -- the same of a configuration: the step on a tree within the node limit, without numbers 1 and 2
 unfoldable pub movedOf : State → Event → Answer
-movedOf s e = answerOf (firstOf (refusal badTree (not (leb (s .count) nodes)) ∷ eventRefusals s e)) s e
+movedOf s e = answerOf (firstOf (refusal badTree (not (leb (s .count) nodeLimit)) ∷ eventRefusals s e)) s e
 
 -- What stands in the parts after the event, and what it answers.
 pub record Parts : Type 0 where

@@ -2,7 +2,7 @@
 // Nothing is copied.
 ghost use mathlib.Core.Path.{_≡_};
 ghost use Prim.Native.Nat.{_<_};
-ghost use Rattle.rules.specs.Codes.{nodes, trunk, branch};
+ghost use Rattle.rules.specs.Codes.{nodeLimit, trunk, branch};
 ghost use Rattle.rules.specs.Step.{endOf};
 ghost use Rattle.parts.specs.Parts.{indexOf, endIn, sceneIn, Laid, partsAt, partsIn, Landed};
 ghost use Rattle.rules.specs.Names.{nameBy, nameOf, someIn};
@@ -40,7 +40,7 @@ pub struct Acted {
 // An index from a byte: 0 where it is none.
 fn index(k: u8) -> usize
     ensures { λ r. ⌜ r ≡ indexOf k ⌝ }
-    ensures { λ r. ⌜ r < nodes ⌝ }
+    ensures { λ r. ⌜ r < nodeLimit ⌝ }
 {
     let i = k as usize;
     if i < State::NODES {
@@ -52,7 +52,7 @@ fn index(k: u8) -> usize
 // The node at which the event happens.
 pub fn node_of(ev: Event) -> usize
     ensures { λ r. ⌜ r ≡ indexOf (ev .node) ⌝ }
-    ensures { λ r. ⌜ r < nodes ⌝ }
+    ensures { λ r. ⌜ r < nodeLimit ⌝ }
 {
     index(ev.node)
 }
@@ -72,7 +72,7 @@ fn end_number(end: End, m: Node, x: u8, other: u8) -> u8
 // The node whose link the event acts on; m is the node at which it happens.
 pub fn end_of(ev: Event, m: Node) -> usize
     ensures { λ r. ⌜ r ≡ endIn ev m ⌝ }
-    ensures { λ r. ⌜ r < nodes ⌝ }
+    ensures { λ r. ⌜ r < nodeLimit ⌝ }
 {
     let row = table::rows::row_of(ev.kind);
     let end = row.end;
@@ -93,7 +93,7 @@ fn scene_at<'a>(
     x: usize,
     j: usize,
 ) -> Scene
-    requires { ⌜ (x < nodes) × (j < nodes) ⌝ }
+    requires { ⌜ (x < nodeLimit) × (j < nodeLimit) ⌝ }
     ensures { λ r. ⌜ r ≡ sceneIn count (now (parents .entry)) (now (rights .entry)) (now (entries .entry)) (now («to_probe» .entry)) (now (pending .entry)) m l x j ⌝ }
 {
     let cell = x * State::NODES + j;
@@ -132,7 +132,7 @@ fn land(
     j: usize,
     other: u8,
 ) -> Node
-    requires { ⌜ (x < nodes) × (j < nodes) ⌝ }
+    requires { ⌜ (x < nodeLimit) × (j < nodeLimit) ⌝ }
     ensures { λ r. ⌜ Laid (now (rights .entry)) (now (entries .entry)) (now («to_probe» .entry)) (now (pending .entry)) row v w x j other (now (rights .exit)) (now (entries .exit)) (now («to_probe» .exit)) (now (pending .exit)) r ⌝ }
 {
     let cell = x * State::NODES + j;
@@ -165,7 +165,7 @@ fn act_at(
     j: usize,
     ev: Event,
 ) -> Acted
-    requires { ⌜ (x < nodes) × (j < nodes) ⌝ }
+    requires { ⌜ (x < nodeLimit) × (j < nodeLimit) ⌝ }
     ensures { λ r. ⌜ Landed (partsAt count (now (parents .entry)) (now (rights .entry)) (now (entries .entry)) (now («to_probe» .entry)) (now (pending .entry)) m l row x j ev) (now (rights .exit)) (now (entries .exit)) (now («to_probe» .exit)) (now (pending .exit)) r ⌝ }
 {
     let v = scene_at(
@@ -247,7 +247,7 @@ pub fn act(
 
 // The name of a node of the arrays, with the rights r.
 fn node_name(entries: &[u8; State::CELLS], r: u8, x: usize) -> u8
-    requires { ⌜ x < nodes ⌝ }
+    requires { ⌜ x < nodeLimit ⌝ }
     ensures { λ res. ⌜ res ≡ nameOf r (someIn (now (entries .entry)) x trunk) (someIn (now (entries .entry)) x branch) ⌝ }
 {
     let trunks = some_entry(entries, x, Entry::TRUNK);

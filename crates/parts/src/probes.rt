@@ -6,7 +6,7 @@ ghost use Rattle.words.specs.Vocab.{fill};
 ghost use Rattle.rules.specs.Acquire.{probedFor, purposeFor};
 ghost use Rattle.rules.specs.Scenes.{nameIn};
 ghost use Rattle.rules.specs.Cells.{cell};
-ghost use Rattle.rules.specs.Codes.{nodes};
+ghost use Rattle.rules.specs.Codes.{nodeLimit};
 ghost use Rattle.rules.specs.Local.{held};
 ghost use Rattle.rules.specs.Probe.{probedBy};
 ghost use Rattle.rules.specs.Step.{probedIn};
@@ -27,8 +27,8 @@ fn held(e: u8) -> bool
 
 // "all entries not None"
 fn held_row(set: &mut [bool; State::CELLS], entries: &[u8; State::CELLS], x: usize)
-    requires { ⌜ x < nodes ⌝ }
-    ensures { λ _. ⌜ now (set .exit) ≡ fill (λ k. held (getD (now (entries .entry)) (cell x k) 0)) (x * nodes) nodes (now (set .entry)) ⌝ }
+    requires { ⌜ x < nodeLimit ⌝ }
+    ensures { λ _. ⌜ now (set .exit) ≡ fill (λ k. held (getD (now (entries .entry)) (cell x k) 0)) (x * nodeLimit) nodeLimit (now (set .entry)) ⌝ }
 {
     for k in 0..State::NODES {
         set[x * State::NODES + k] = held(entries[x * State::NODES + k]);
@@ -44,8 +44,8 @@ fn asked_row(
     name: u8,
     requester: u8,
 )
-    requires { ⌜ x < nodes ⌝ }
-    ensures { λ _. ⌜ now (set .exit) ≡ fill (λ k. probedFor purpose name requester (getD (now (entries .entry)) (cell x k) 0) k) (x * nodes) nodes (now (set .entry)) ⌝ }
+    requires { ⌜ x < nodeLimit ⌝ }
+    ensures { λ _. ⌜ now (set .exit) ≡ fill (λ k. probedFor purpose name requester (getD (now (entries .entry)) (cell x k) 0) k) (x * nodeLimit) nodeLimit (now (set .entry)) ⌝ }
 {
     for k in 0..State::NODES {
         set[x * State::NODES + k] = probed_for(
@@ -60,8 +60,8 @@ fn asked_row(
 
 // "Trunk entries for cap B, all not None for cap N"
 fn capped_row(set: &mut [bool; State::CELLS], entries: &[u8; State::CELLS], x: usize, cap: u8)
-    requires { ⌜ x < nodes ⌝ }
-    ensures { λ _. ⌜ now (set .exit) ≡ fill (λ k. probedBy cap (getD (now (entries .entry)) (cell x k) 0)) (x * nodes) nodes (now (set .entry)) ⌝ }
+    requires { ⌜ x < nodeLimit ⌝ }
+    ensures { λ _. ⌜ now (set .exit) ≡ fill (λ k. probedBy cap (getD (now (entries .entry)) (cell x k) 0)) (x * nodeLimit) nodeLimit (now (set .entry)) ⌝ }
 {
     for k in 0..State::NODES {
         set[x * State::NODES + k] = probed_by(cap, entries[x * State::NODES + k]);
@@ -76,8 +76,8 @@ fn asked(
     x: usize,
     set: &mut [bool; State::CELLS],
 )
-    requires { ⌜ x < nodes ⌝ }
-    ensures { λ _. ⌜ now (set .exit) ≡ fill (λ k. probedFor (purposeFor (v .link .a)) (nameIn v) other (getD (now (entries .entry)) (cell x k) 0) k) (x * nodes) nodes (now (set .entry)) ⌝ }
+    requires { ⌜ x < nodeLimit ⌝ }
+    ensures { λ _. ⌜ now (set .exit) ≡ fill (λ k. probedFor (purposeFor (v .link .a)) (nameIn v) other (getD (now (entries .entry)) (cell x k) 0) k) (x * nodeLimit) nodeLimit (now (set .entry)) ⌝ }
 {
     let l = v.link;
     let purpose = purpose_for(l.a);
@@ -93,7 +93,7 @@ pub fn write_row(
     x: usize,
     set: &mut [bool; State::CELLS],
 )
-    requires { ⌜ x < nodes ⌝ }
+    requires { ⌜ x < nodeLimit ⌝ }
     ensures { λ _. ⌜ now (set .exit) ≡ probedIn probes v other (now (entries .entry)) x (now (set .entry)) ⌝ }
 {
     match probes {

@@ -2,13 +2,13 @@
 // compiler then takes many cells at once.
 ghost use mathlib.Core.Path.{_≡_};
 ghost use Prim.Native.Nat.{_<_};
-ghost use Rattle.rules.specs.Codes.{nodes};
+ghost use Rattle.rules.specs.Codes.{nodeLimit};
 ghost use Rattle.rules.specs.Names.{someIn, noneIn, othersNoneIn, memberIn, setsEmptyIn};
 use rules::State;
 use rules::codes::Entry;
 
 pub fn some_entry(entries: &[u8; State::CELLS], x: usize, e: u8) -> bool
-    requires { ⌜ x < nodes ⌝ }
+    requires { ⌜ x < nodeLimit ⌝ }
     ensures { λ r. ⌜ r ≡ someIn (now (entries .entry)) x e ⌝ }
 {
     let mut some = false;
@@ -19,7 +19,7 @@ pub fn some_entry(entries: &[u8; State::CELLS], x: usize, e: u8) -> bool
 }
 
 pub fn none_held(entries: &[u8; State::CELLS], x: usize) -> bool
-    requires { ⌜ x < nodes ⌝ }
+    requires { ⌜ x < nodeLimit ⌝ }
     ensures { λ r. ⌜ r ≡ noneIn (now (entries .entry)) x ⌝ }
 {
     let mut none = true;
@@ -30,7 +30,7 @@ pub fn none_held(entries: &[u8; State::CELLS], x: usize) -> bool
 }
 
 pub fn others_none(entries: &[u8; State::CELLS], x: usize, q: usize) -> bool
-    requires { ⌜ x < nodes ⌝ }
+    requires { ⌜ x < nodeLimit ⌝ }
     ensures { λ r. ⌜ r ≡ othersNoneIn (now (entries .entry)) x q ⌝ }
 {
     let mut none = true;
@@ -41,7 +41,7 @@ pub fn others_none(entries: &[u8; State::CELLS], x: usize, q: usize) -> bool
 }
 
 fn has_member(set: &[bool; State::CELLS], x: usize) -> bool
-    requires { ⌜ x < nodes ⌝ }
+    requires { ⌜ x < nodeLimit ⌝ }
     ensures { λ r. ⌜ r ≡ memberIn (now (set .entry)) x ⌝ }
 {
     let mut some = false;
@@ -57,7 +57,7 @@ pub fn sets_empty<'a>(
     pending: &'a [bool; State::CELLS],
     x: usize,
 ) -> bool
-    requires { ⌜ x < nodes ⌝ }
+    requires { ⌜ x < nodeLimit ⌝ }
     ensures { λ r. ⌜ r ≡ setsEmptyIn (now («to_probe» .entry)) (now (pending .entry)) x ⌝ }
 {
     let listed = has_member(to_probe, x);

@@ -2,7 +2,7 @@
 use mathlib.Core.Path.{_≡_, refl}
 use native.Mathlib.Omega.{arith}
 use lib.ListN.{length, length-append}
-use Rattle.rules.specs.Codes.{nodes, cells}
+use Rattle.rules.specs.Codes.{nodeLimit, cells}
 use Rattle.rules.specs.declared.State.{State}
 use Rattle.rules.specs.declared.Node.{Node}
 use Rattle.rules.specs.declared.Link.{Link}
@@ -22,13 +22,13 @@ link-size m = simp (length-append, length-bytes)
 
 -- the rows of a configuration in the code are as long as the arrays
 pub record Sized (s : State) : Type 0 where
-  pub parents-long : length (s .parents) ≡ nodes
-  pub rights-long : length (s .rights) ≡ nodes
+  pub parents-long : length (s .parents) ≡ nodeLimit
+  pub rights-long : length (s .rights) ≡ nodeLimit
   pub entries-long : length (s .entries) ≡ cells
   pub to-probe-long : length (s .«to_probe») ≡ cells
   pub pending-long : length (s .pending) ≡ cells
-  pub nodes-long : length (s .nodes) ≡ nodes
-  pub links-long : length (s .links) ≡ nodes
+  pub nodes-long : length (s .nodes) ≡ nodeLimit
+  pub links-long : length (s .links) ≡ nodeLimit
 
 pub state-size : (s : State) → Sized s → length (stateBytes s) ≡ stateSize
 unfolding stateBytes

@@ -1,7 +1,7 @@
 -- An answer as bytes, and the places of what a reset is asked with.
 use mathlib.Core.List.{List, _++_}
 use Prim.Native.Nat.{ℕ, _+_}
-use Rattle.rules.specs.Codes.{nodes}
+use Rattle.rules.specs.Codes.{nodeLimit}
 use Rattle.rules.specs.declared.State.{State}
 use Rattle.octets.specs.BigEndian.{wordSize, wordBytes}
 use Rattle.octets.specs.Fields.{one}
@@ -13,7 +13,7 @@ abbrev pub askedParents : ℕ
 askedParents = 1
 
 abbrev pub askedFirst : ℕ
-askedFirst = askedParents + nodes
+askedFirst = askedParents + nodeLimit
 
 -- "An answer is number (1), value (8), configuration"
 abbrev pub answerSize : ℕ

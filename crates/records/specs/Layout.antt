@@ -1,6 +1,6 @@
 -- Printed by tools/print from crates/rules/src/lib.rt. The places of the fields in bytes (docs/FORMAT.md).
 use Prim.Native.Nat.{ℕ, _+_, _*_}
-use Rattle.rules.specs.Codes.{nodes, cells}
+use Rattle.rules.specs.Codes.{nodeLimit, cells}
 
 -- bytes of a node and of a link
 abbrev pub nodeSize : ℕ
@@ -17,10 +17,10 @@ abbrev pub parentsPlace : ℕ
 parentsPlace = countPlace + 1
 
 abbrev pub rightsPlace : ℕ
-rightsPlace = parentsPlace + nodes
+rightsPlace = parentsPlace + nodeLimit
 
 abbrev pub entriesPlace : ℕ
-entriesPlace = rightsPlace + nodes
+entriesPlace = rightsPlace + nodeLimit
 
 abbrev pub toProbePlace : ℕ
 toProbePlace = entriesPlace + cells
@@ -32,7 +32,7 @@ abbrev pub nodesPlace : ℕ
 nodesPlace = pendingPlace + cells
 
 abbrev pub linksPlace : ℕ
-linksPlace = nodesPlace + nodes * nodeSize
+linksPlace = nodesPlace + nodeLimit * nodeSize
 
 abbrev pub stateSize : ℕ
-stateSize = linksPlace + nodes * linkSize
+stateSize = linksPlace + nodeLimit * linkSize

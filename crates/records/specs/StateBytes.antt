@@ -5,7 +5,7 @@ use mathlib.Core.List.{List, _++_, flatMap}
 use Prim.Native.Nat.{ℕ, _+_, _*_}
 use lib.ListN.{replicate}
 use Rattle.words.specs.Vocab.{all, fill}
-use Rattle.rules.specs.Codes.{nodes, cells}
+use Rattle.rules.specs.Codes.{nodeLimit, cells}
 use Rattle.rules.specs.Zero.{zeroNode, zeroLink}
 use Rattle.rules.specs.declared.State.{State}
 use Rattle.rules.specs.declared.Node.{Node}
@@ -26,7 +26,7 @@ linkAt s i =
 
 -- a row from i on: one for each node, or for each cell
 unfoldable pub byteRowAt : List ℕ → ℕ → List ℕ
-byteRowAt s i = fill (λ k. byte s (i + k)) 0 nodes (replicate nodes 0)
+byteRowAt s i = fill (λ k. byte s (i + k)) 0 nodeLimit (replicate nodeLimit 0)
 
 unfoldable pub byteCellsAt : List ℕ → ℕ → List ℕ
 byteCellsAt s i = fill (λ k. byte s (i + k)) 0 cells (replicate cells 0)
@@ -35,10 +35,10 @@ unfoldable pub flagCellsAt : List ℕ → ℕ → List Bool
 flagCellsAt s i = fill (λ k. flagAt s (i + k)) 0 cells (replicate cells false)
 
 unfoldable pub nodeRowAt : List ℕ → ℕ → List Node
-nodeRowAt s i = fill (λ k. nodeAt s (i + k * nodeSize)) 0 nodes (replicate nodes zeroNode)
+nodeRowAt s i = fill (λ k. nodeAt s (i + k * nodeSize)) 0 nodeLimit (replicate nodeLimit zeroNode)
 
 unfoldable pub linkRowAt : List ℕ → ℕ → List Link
-linkRowAt s i = fill (λ k. linkAt s (i + k * linkSize)) 0 nodes (replicate nodes zeroLink)
+linkRowAt s i = fill (λ k. linkAt s (i + k * linkSize)) 0 nodeLimit (replicate nodeLimit zeroLink)
 
 -- the configuration that the bytes write
 unfoldable pub stateOf : List ℕ → State
@@ -53,7 +53,7 @@ unfoldable pub flagCellsOk : List ℕ → ℕ → Bool
 flagCellsOk s i = all (λ k. flagOk s (i + k)) cells
 
 unfoldable pub nodeRowOk : List ℕ → ℕ → Bool
-nodeRowOk s i = all (λ k. nodeFlagsOk s (i + k * nodeSize)) nodes
+nodeRowOk s i = all (λ k. nodeFlagsOk s (i + k * nodeSize)) nodeLimit
 
 unfoldable pub flagsOk : List ℕ → Bool
 flagsOk s = flagCellsOk s toProbePlace && flagCellsOk s pendingPlace && nodeRowOk s nodesPlace

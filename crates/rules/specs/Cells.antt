@@ -2,7 +2,7 @@
 use mathlib.Core.Bool.{Bool, false}
 use Prim.Native.Nat.{ℕ, _+_, _*_}
 use lib.ListN.{getD}
-use Rattle.rules.specs.Codes.{nodes}
+use Rattle.rules.specs.Codes.{nodeLimit}
 use Rattle.rules.specs.Zero.{zeroNode, zeroLink}
 use Rattle.rules.specs.declared.State.{State}
 use Rattle.rules.specs.declared.Node.{Node}
@@ -17,7 +17,7 @@ blankLink = zeroLink
 
 -- "entries: one row for each node, one entry for each child"
 abbrev pub cell : ℕ → ℕ → ℕ
-cell x k = x * nodes + k
+cell x k = x * nodeLimit + k
 
 abbrev pub parent : State → ℕ → ℕ
 parent s k = getD (s .parents) k 0

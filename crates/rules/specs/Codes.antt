@@ -3,12 +3,12 @@
 use Prim.Native.Nat.{ℕ, _*_}
 
 -- "One cache line in a tree of 2 to 16 nodes."
-abbrev pub nodes : ℕ
-nodes = 16
+abbrev pub nodeLimit : ℕ
+nodeLimit = 16
 
 -- one row of entries, or of a set, for each node
 abbrev pub cells : ℕ
-cells = nodes * nodes
+cells = nodeLimit * nodeLimit
 
 -- "rights N, B or Tip"
 abbrev pub rightsN : ℕ

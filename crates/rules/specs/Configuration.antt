@@ -4,7 +4,7 @@ use mathlib.Core.Bool.{Bool, true, false, not, _&&_, _||_, Bool·beq}
 use Prim.Native.Nat.{ℕ}
 use lib.Dec.{eqb, leb, ltb}
 use Rattle.words.specs.Vocab.{all}
-use Rattle.rules.specs.Codes.{nodes, rightsN, rightsB, tip, none, trunk, idle, noCap, capN, noChild, empty, acquireU, probeN, releaseData, releaseAck, grantAck}
+use Rattle.rules.specs.Codes.{nodeLimit, rightsN, rightsB, tip, none, trunk, idle, noCap, capN, noChild, empty, acquireU, probeN, releaseData, releaseAck, grantAck}
 use Rattle.rules.specs.Cases.{perPhase, perPurpose}
 use Rattle.rules.specs.Cells.{parent, rights, entry, toProbe, pending, node, link}
 use Rattle.rules.specs.Tree.{isChild, isLeaf}
@@ -103,7 +103,7 @@ abbrev pub pairAt : State → ℕ → ℕ → Bool
 pairAt s x k = pairOk (rights s x) (isChild s x k) (entry s x k) (toProbe s x k) (pending s x k)
 
 abbrev pub rowAt : State → ℕ → Bool
-rowAt s x = all (pairAt s x) nodes
+rowAt s x = all (pairAt s x) nodeLimit
 
 abbrev pub standsAt : State → ℕ → Bool
 standsAt s x = standsOk (s .count) x (parent s x) (rights s x) (node s x) (link s x)
@@ -113,4 +113,4 @@ rightAt s x = nodeAt s x && linkOk (link s x) && standsAt s x && rowAt s x
 
 -- no clause of the list is broken
 unfoldable pub configurationOk : State → Bool
-configurationOk s = all (rightAt s) nodes
+configurationOk s = all (rightAt s) nodeLimit

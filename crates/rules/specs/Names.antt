@@ -5,25 +5,25 @@ use Prim.Native.Nat.{ℕ}
 use lib.ListN.{getD}
 use lib.Dec.{eqb}
 use Rattle.words.specs.Vocab.{all, any, choose}
-use Rattle.rules.specs.Codes.{nodes, rightsB, tip, none, branch, trunk, nameN, nameB, nameT, nameTB, nameTT}
+use Rattle.rules.specs.Codes.{nodeLimit, rightsB, tip, none, branch, trunk, nameN, nameB, nameT, nameTB, nameTT}
 use Rattle.rules.specs.Cells.{cell}
 use Rattle.rules.specs.declared.State.{State}
 
 -- some entry of the row of x is e
 unfoldable pub someIn : List ℕ → ℕ → ℕ → Bool
-someIn es x e = any (λ k. eqb (getD es (cell x k) 0) e) nodes
+someIn es x e = any (λ k. eqb (getD es (cell x k) 0) e) nodeLimit
 
 -- all entries of the row of x are None
 unfoldable pub noneIn : List ℕ → ℕ → Bool
-noneIn es x = all (λ k. eqb (getD es (cell x k) 0) none) nodes
+noneIn es x = all (λ k. eqb (getD es (cell x k) 0) none) nodeLimit
 
 -- all entries of the row of x but that of q are None
 unfoldable pub othersNoneIn : List ℕ → ℕ → ℕ → Bool
-othersNoneIn es x q = all (λ k. eqb k q || eqb (getD es (cell x k) 0) none) nodes
+othersNoneIn es x q = all (λ k. eqb k q || eqb (getD es (cell x k) 0) none) nodeLimit
 
 -- some member stands in the row of x
 unfoldable pub memberIn : List Bool → ℕ → Bool
-memberIn set x = any (λ k. getD set (cell x k) false) nodes
+memberIn set x = any (λ k. getD set (cell x k) false) nodeLimit
 
 abbrev pub someEntry : State → ℕ → ℕ → Bool
 someEntry s x e = someIn (s .entries) x e

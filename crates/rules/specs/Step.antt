@@ -5,7 +5,7 @@ use Prim.Native.Nat.{ℕ, _*_}
 use lib.ListN.{getD, set, replicate}
 use lib.Dec.{eqb, ltb}
 use Rattle.words.specs.Vocab.{fill, choose}
-use Rattle.rules.specs.Codes.{nodes, cells, tip, accepts, badTree, notAConfiguration, badEvent, wrongPlace, outOfTurn}
+use Rattle.rules.specs.Codes.{nodeLimit, cells, tip, accepts, badTree, notAConfiguration, badEvent, wrongPlace, outOfTurn}
 use Rattle.rules.specs.With.{withValue, withPhase}
 use Rattle.rules.specs.Cells.{blankNode, blankLink, cell, node}
 use Rattle.rules.specs.Tree.{treeOk, goodTree, isChild}
@@ -40,19 +40,19 @@ refused n s = record { number = n; value = 0; state = s }
 -- an all-zero record
 abbrev pub blankState : State
 blankState =
-    record { count = 0; parents = replicate nodes 0; rights = replicate nodes 0; entries = replicate cells 0; «to_probe» = replicate cells false; pending = replicate cells false; nodes = replicate nodes blankNode; links = replicate nodes blankLink }
+    record { count = 0; parents = replicate nodeLimit 0; rights = replicate nodeLimit 0; entries = replicate cells 0; «to_probe» = replicate cells false; pending = replicate cells false; nodes = replicate nodeLimit blankNode; links = replicate nodeLimit blankLink }
 
 -- the parent of k that reset writes: as it was given for nodes 1 to the last, and zero elsewhere
 unfoldable pub treeParent : ℕ → List ℕ → ℕ → ℕ
 treeParent n ps k = choose (ltb k n) (choose (eqb k 0) 0 (getD ps k 0)) 0
 
 unfoldable pub treeParents : ℕ → List ℕ → List ℕ
-treeParents n ps = fill (treeParent n ps) 0 nodes (replicate nodes 0)
+treeParents n ps = fill (treeParent n ps) 0 nodeLimit (replicate nodeLimit 0)
 
 -- "Reset: root Tip, clean, first value; all others N with value 0; entries None; everything idle and empty."
 unfoldable pub startOf : ℕ → List ℕ → ℕ → State
 startOf n ps v =
-    record { count = n; parents = treeParents n ps; rights = set (replicate nodes 0) 0 tip; entries = replicate cells 0; «to_probe» = replicate cells false; pending = replicate cells false; nodes = set (replicate nodes blankNode) 0 (withValue blankNode v); links = replicate nodes blankLink }
+    record { count = n; parents = treeParents n ps; rights = set (replicate nodeLimit 0) 0 tip; entries = replicate cells 0; «to_probe» = replicate cells false; pending = replicate cells false; nodes = set (replicate nodeLimit blankNode) 0 (withValue blankNode v); links = replicate nodeLimit blankLink }
 
 -- "Reset on a bad tree gives number 1 and an all-zero record."
 unfoldable pub resetOf : ℕ → List ℕ → ℕ → Answer
@@ -86,9 +86,9 @@ turnOk s e = linkThere (kindOf (e .kind) .row .end) (isChild s (e .node) (endAt 
 -- the row of x in to-probe, by its entries es, as the row of the kind says: v is the scene and q the event's other
 unfoldable pub probedIn : Probes → Scene → ℕ → List ℕ → ℕ → List Bool → List Bool
 probedIn Stay v q es x l = l
-probedIn Held v q es x l = fill (λ k. held (getD es (cell x k) 0)) (x * nodes) nodes l
-probedIn Asked v q es x l = fill (λ k. probedFor (purposeFor (v .link .a)) (nameIn v) q (getD es (cell x k) 0) k) (x * nodes) nodes l
-probedIn Capped v q es x l = fill (λ k. probedBy (v .link .b) (getD es (cell x k) 0)) (x * nodes) nodes l
+probedIn Held v q es x l = fill (λ k. held (getD es (cell x k) 0)) (x * nodeLimit) nodeLimit l
+probedIn Asked v q es x l = fill (λ k. probedFor (purposeFor (v .link .a)) (nameIn v) q (getD es (cell x k) 0) k) (x * nodeLimit) nodeLimit l
+probedIn Capped v q es x l = fill (λ k. probedBy (v .link .b) (getD es (cell x k) 0)) (x * nodeLimit) nodeLimit l
 
 -- the fields m once they have settled, with the rights r and these sets
 abbrev pub settledNode : Settles → Bool → Node → ℕ → Node

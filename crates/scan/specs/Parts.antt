@@ -5,7 +5,7 @@ use mathlib.Core.List.{List}
 use Prim.Native.Nat.{ℕ}
 use lib.ListN.{getD}
 use Rattle.words.specs.Vocab.{all}
-use Rattle.rules.specs.Codes.{nodes}
+use Rattle.rules.specs.Codes.{nodeLimit}
 use Rattle.rules.specs.Cells.{cell}
 use Rattle.rules.specs.Tree.{childIn, leafIn}
 use Rattle.rules.specs.Configuration.{nodeOk, linkOk, pairOk, standsOk}
@@ -22,7 +22,7 @@ pairIn n ps es ws us r x k = pairOk r (childIn n ps x k) (getD es (cell x k) 0) 
 
 -- rowAt
 abbrev pub rowIn : ℕ → List ℕ → List ℕ → List Bool → List Bool → ℕ → ℕ → Bool
-rowIn n ps es ws us r x = all (pairIn n ps es ws us r x) nodes
+rowIn n ps es ws us r x = all (pairIn n ps es ws us r x) nodeLimit
 
 -- rightAt, of a node with rights r, fields m and link l
 abbrev pub rightIn : ℕ → List ℕ → List ℕ → List Bool → List Bool → ℕ → ℕ → Node → Link → Bool

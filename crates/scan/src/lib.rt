@@ -2,7 +2,7 @@
 // leaves early: the compiler takes many cells at once.
 ghost use mathlib.Core.Path.{_≡_};
 ghost use Prim.Native.Nat.{_<_};
-ghost use Rattle.rules.specs.Codes.{nodes};
+ghost use Rattle.rules.specs.Codes.{nodeLimit};
 ghost use Rattle.rules.specs.Tree.{childBy};
 ghost use Rattle.rules.specs.Configuration.{copyOk, serving, evicting, workOk, atLeaf, leafOk, hasRequester, requesterOk, childOk, probeOk, nodeOk, upOk, downOk, linkOk, pairOk, slotsEmpty, blank, standsOk, configurationOk};
 ghost use Rattle.scan.specs.Parts.{nodeIn, pairIn, rowIn, rightIn};
@@ -211,7 +211,7 @@ fn pair_at<'a>(
     x: usize,
     k: usize,
 ) -> bool
-    requires { ⌜ (x < nodes) × (k < nodes) ⌝ }
+    requires { ⌜ (x < nodeLimit) × (k < nodeLimit) ⌝ }
     ensures { λ res. ⌜ res ≡ pairIn count (now (parents .entry)) (now (entries .entry)) (now («to_probe» .entry)) (now (pending .entry)) r x k ⌝ }
 {
     pair_by(
@@ -235,7 +235,7 @@ fn row_at<'a>(
     r: u8,
     x: usize,
 ) -> bool
-    requires { ⌜ x < nodes ⌝ }
+    requires { ⌜ x < nodeLimit ⌝ }
     ensures { λ res. ⌜ res ≡ rowIn count (now (parents .entry)) (now (entries .entry)) (now («to_probe» .entry)) (now (pending .entry)) r x ⌝ }
 {
     let mut ok = true;
@@ -301,7 +301,7 @@ fn right_at<'a>(
     m: Node,
     l: Link,
 ) -> bool
-    requires { ⌜ x < nodes ⌝ }
+    requires { ⌜ x < nodeLimit ⌝ }
     ensures { λ res. ⌜ res ≡ rightIn count (now (parents .entry)) (now (entries .entry)) (now («to_probe» .entry)) (now (pending .entry)) x r m l ⌝ }
 {
     let node = node_at(count, parents, x as u8, r, m);

@@ -10,7 +10,7 @@ use lib.ListN.{length, take, drop, getD, set, length-drop, length-append}
 use lib.Seq.{take-all, take-suc, take-suc-set, getD-drop}
 use lib.Dec.{leb, eqb}
 use Rattle.words.proofs.Facts.{both, choose-true, choose-false}
-use Rattle.rules.specs.Codes.{nodes}
+use Rattle.rules.specs.Codes.{nodeLimit}
 use Rattle.rules.specs.Names.{nameBy}
 use Rattle.rules.specs.Tree.{goodTree}
 use Rattle.rules.specs.Step.{onwardOf}
@@ -82,7 +82,7 @@ names-long rs es (suc n) = rw (length-append, names-long rs es n) (omega arith)
 pub names-count : (rs es : List ℕ) (n : ℕ) {l : List ℕ} → l ≡ namesBy rs es n → n ≡ length l
 names-count rs es n e = rw e (sym (names-long rs es n))
 
-pub names-few : (rs es : List ℕ) (n : ℕ) {l : List ℕ} → l ≡ namesBy rs es n → n ≤ nodes → length l < 256
+pub names-few : (rs es : List ℕ) (n : ℕ) {l : List ℕ} → l ≡ namesBy rs es n → n ≤ nodeLimit → length l < 256
 names-few rs es n e h = omega (arith, names-count rs es n e)
 
 pub ruleset naming = (names-none, names-more, names-all, arith)
@@ -117,8 +117,8 @@ turned {o₀} {t} {o} {o′} {p} {p′} v s at i c {e} {a} l h ok d g w =
     (left-less (lineOf i x (onwardOf c x)) _ (rw (goes v (more i) (more (i + 1)) s at i c (omega arith) ok) at l) u)
 
 -- the last line; it names no more nodes than the limit
-pub counted : (s : State) → goodTree s ≡ true → s .count ≤ nodes
-counted s h = leb-true (s .count) nodes (within-limit s h)
+pub counted : (s : State) → goodTree s ≡ true → s .count ≤ nodeLimit
+counted s h = leb-true (s .count) nodeLimit (within-limit s h)
 
 pub closes : {o₀ t o o′ : List ℕ} {p r : ℕ} (v n : ℕ) (s : List ℕ) (at i : ℕ) (c : State) → Left o₀ t o p (eventsFrom v n s at i c) → recordOk s at ≡ false → Wrote o p (closing s at c) o′ r → Wrote o₀ 0 t o′ r
 closes v n s at i c l h w = l .then (wrote-same (sym (stops v n s at i c h)) w)

@@ -13,7 +13,7 @@ use lib.Dec.{leb, eqb}
 use Rattle.words.proofs.Facts.{both, decided, choose-true, choose-false}
 use Rattle.words.proofs.Laws.{told-not, told-true}
 use Rattle.io.specs.Counts.{Counts}
-use Rattle.rules.specs.Codes.{nodes}
+use Rattle.rules.specs.Codes.{nodeLimit}
 use Rattle.rules.specs.Tree.{goodTree}
 use Rattle.rules.specs.Step.{resetOf}
 use Rattle.closed.proofs.Reset.{reset-tree}
@@ -72,7 +72,7 @@ fit-first v s {l} {n} {m} e three f low g high = go (decLt (l - 3) n)
 pub ruleset firsts = (cut-first, low-first, high-first, fit-first, arith)
 
 -- a good first record's node count is within the limit
-pub few-nodes : (v : ℕ) (s : List ℕ) → First v s → firstLength s ≤ nodes + 7
+pub few-nodes : (v : ℕ) (s : List ℕ) → First v s → firstLength s ≤ nodeLimit + 7
 few-nodes v s f = omega (arith, f .high, longest-fits v)
 
 pub first-told : (v : ℕ) (s : List ℕ) {b : Bool} → b ≡ firstOk v s → not b ≡ false → First v s

@@ -5,7 +5,7 @@ use Prim.Native.Nat.{ℕ, zero, suc, _+_, _-_, _≤_}
 use lib.ListN.{length, take, drop, replicate}
 use lib.Dec.{eqb, leb}
 use Rattle.words.specs.Vocab.{fill, choose}
-use Rattle.rules.specs.Codes.{nodes}
+use Rattle.rules.specs.Codes.{nodeLimit}
 use Rattle.rules.specs.Names.{nameBy}
 use Rattle.rules.specs.Step.{resetOf, onwardOf}
 use Rattle.rules.specs.declared.State.{State}
@@ -46,7 +46,7 @@ abbrev pub countOf : List ℕ → ℕ
 countOf s = firstLength s - 7
 
 unfoldable pub parentsOf : List ℕ → ℕ → List ℕ
-parentsOf s n = fill (λ k. byte s (11 + k)) 1 (n - 1) (replicate nodes 0)
+parentsOf s n = fill (λ k. byte s (11 + k)) 1 (n - 1) (replicate nodeLimit 0)
 
 -- "Others: length 11: kind, node, other, value in 8 bytes.": the bytes of such a record with its length
 abbrev pub recordSize : ℕ

@@ -1,7 +1,7 @@
 // The first record: whether it is good, and the parents in it.
 ghost use mathlib.Core.Path.{_≡_};
 ghost use Prim.Native.Nat.{_≤_};
-ghost use Rattle.rules.specs.Codes.{nodes};
+ghost use Rattle.rules.specs.Codes.{nodeLimit};
 ghost use Rattle.trails.specs.Trail.{firstOk, parentsOf};
 use octets::limits::longest_first;
 use octets::limits::reach;
@@ -35,7 +35,7 @@ pub fn first_ok(version: u8, s: &[u8]) -> bool
 // The parents of a tree of n nodes: the root's is 0, the others stand after the first value.
 pub fn parents(s: &[u8], n: usize) -> [u8; State::NODES]
     requires { ⌜ 1 ≤ n ⌝ }
-    requires { ⌜ n ≤ nodes ⌝ }
+    requires { ⌜ n ≤ nodeLimit ⌝ }
     ensures { λ r. ⌜ r ≡ parentsOf (now (s .entry)) n ⌝ }
 {
     let mut ps = [0u8; State::NODES];

@@ -3,7 +3,7 @@ ghost use mathlib.Core.Path.{_≡_};
 ghost use Prim.Native.Nat.{_+_, _<_, _≤_};
 ghost use mathlib.Core.Bool.{true};
 ghost use lib.ListN.{length, take};
-ghost use Rattle.rules.specs.Codes.{nodes};
+ghost use Rattle.rules.specs.Codes.{nodeLimit};
 ghost use Rattle.rules.specs.Tree.{goodTree};
 ghost use Rattle.octets.specs.Prefixed.{window, reach};
 ghost use Rattle.octets.specs.Written.{Wrote};
@@ -78,7 +78,7 @@ fn names<'a>(
     rights: &'a [u8; State::NODES],
     entries: &'a [u8; State::CELLS],
 ) -> [u8; State::NODES]
-    requires { ⌜ n ≤ nodes ⌝ }
+    requires { ⌜ n ≤ nodeLimit ⌝ }
     ensures { λ r. ⌜ take n r ≡ namesBy (now (rights .entry)) (now (entries .entry)) n ⌝ }
 {
     let mut names = [0u8; State::NODES];
@@ -98,7 +98,7 @@ fn put_closing<'a>(
     rights: &'a [u8; State::NODES],
     entries: &'a [u8; State::CELLS],
 ) -> usize
-    requires { ⌜ n ≤ nodes ⌝ }
+    requires { ⌜ n ≤ nodeLimit ⌝ }
     ensures { λ r. ⌜ Wrote (now (out .entry)) p (closingIn (now (input .entry)) at n (now (rights .entry)) (now (entries .entry))) (now (out .exit)) r ⌝ }
     ensures { λ r. ⌜ r ≤ p + 800 ⌝ }
 {
@@ -161,7 +161,7 @@ fn events(input: &[u8], out: &mut [u8; ROOM], version: u8, start: State, first: 
 // Reset, as the first record asks for it.
 fn reset_by(input: &[u8]) -> Answer
     requires { ⌜ shortest ≤ firstLength (now input) ⌝ }
-    requires { ⌜ firstLength (now input) ≤ nodes + 7 ⌝ }
+    requires { ⌜ firstLength (now input) ≤ nodeLimit + 7 ⌝ }
     ensures { λ r. ⌜ r ≡ resetBy (now (input .entry)) ⌝ }
 {
     let count = length_at(input, 1) as usize - 7;

@@ -4,7 +4,7 @@
 ghost use mathlib.Core.Path.{_≡_};
 ghost use lib.ListN.{getD};
 ghost use Rattle.words.specs.Vocab.{all, any};
-ghost use Rattle.rules.specs.Codes.{nodes};
+ghost use Rattle.rules.specs.Codes.{nodeLimit};
 ghost use Rattle.rules.specs.Tree.{parentBy, parentOk, treeOk, childBy, childIn, leafIn};
 use rules::State;
 
@@ -29,7 +29,7 @@ fn parent_by(count: u8, p: u8, k: u8) -> bool
 }
 
 fn parents_ok(count: u8, parents: &[u8; State::NODES]) -> bool
-    ensures { λ r. ⌜ r ≡ all (parentOk count (now (parents .entry))) nodes ⌝ }
+    ensures { λ r. ⌜ r ≡ all (parentOk count (now (parents .entry))) nodeLimit ⌝ }
 {
     let mut ok = true;
     for k in 0..State::NODES {
@@ -62,7 +62,7 @@ pub fn is_child(count: u8, parents: &[u8; State::NODES], x: u8, k: u8) -> bool
 }
 
 fn has_child(count: u8, parents: &[u8; State::NODES], x: u8) -> bool
-    ensures { λ r. ⌜ r ≡ any (childIn count (now (parents .entry)) x) nodes ⌝ }
+    ensures { λ r. ⌜ r ≡ any (childIn count (now (parents .entry)) x) nodeLimit ⌝ }
 {
     let mut some = false;
     for k in 0..State::NODES {

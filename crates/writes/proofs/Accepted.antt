@@ -10,7 +10,7 @@ use lib.ListN.{getD}
 use lib.Dec.{eqb, leb, ltb}
 use Rattle.words.specs.Vocab.{all, choose}
 use Rattle.words.proofs.Facts.{both, all-at, either, by-test}
-use Rattle.rules.specs.Codes.{nodes, accepts}
+use Rattle.rules.specs.Codes.{nodeLimit, accepts}
 use Rattle.rules.specs.Cells.{node}
 use Rattle.rules.specs.Tree.{parentOk, treeOk, goodTree, isChild}
 use Rattle.rules.specs.Configuration.{configurationOk}
@@ -25,24 +25,24 @@ use Rattle.rules.specs.declared.Answer.{Answer}
 -- the tree is good
 pub record Tree (n : ℕ) (ps : List ℕ) : Type 0 where
   pub least : 2 ≤ n
-  pub most : n ≤ nodes
+  pub most : n ≤ nodeLimit
   pub smaller : (k : ℕ) → 0 < k → k < n → getD ps k 0 < k
 
 pub tree : (n : ℕ) (ps : List ℕ) → treeOk n ps ≡ true → Tree n ps
 unfolding treeOk
 tree n ps h = record { least = leb-true _ _ (w .0); most = most; smaller = smaller }
   where
-    u : ((leb 2 n && leb n nodes) ≡ true) × (all (parentOk n ps) nodes ≡ true)
+    u : ((leb 2 n && leb n nodeLimit) ≡ true) × (all (parentOk n ps) nodeLimit ≡ true)
     u = both _ _ h
 
-    w : (leb 2 n ≡ true) × (leb n nodes ≡ true)
+    w : (leb 2 n ≡ true) × (leb n nodeLimit ≡ true)
     w = both _ _ (u .0)
 
-    most : n ≤ nodes
+    most : n ≤ nodeLimit
     most = leb-true _ _ (w .1)
 
     smaller : (k : ℕ) → 0 < k → k < n → getD ps k 0 < k
-    smaller k a b = go (either _ _ (all-at (parentOk n ps) nodes k (u .1) (omega (arith, most))))
+    smaller k a b = go (either _ _ (all-at (parentOk n ps) nodeLimit k (u .1) (omega (arith, most))))
       where
         inner : (eqb k 0 ≡ true) ⊎ (leb n k ≡ true) → getD ps k 0 < k
         inner (inl e) = let f : k ≡ 0 = eqb-true _ _ e in absurd (omega arith)

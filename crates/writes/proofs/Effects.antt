@@ -3,7 +3,7 @@ use mathlib.Core.Path.{_≡_, refl}
 use mathlib.Core.Bool.{true, false}
 use Prim.Native.Nat.{ℕ, _<_}
 use Rattle.words.specs.Vocab.{choose}
-use Rattle.rules.specs.Codes.{nodes, rightsN, none, ask, wait, await, confirm, leaving, toLoad, toStore, toEvict, noCap, noChild, empty, grantAck, releaseAck}
+use Rattle.rules.specs.Codes.{nodeLimit, rightsN, none, ask, wait, await, confirm, leaving, toLoad, toStore, toEvict, noCap, noChild, empty, grantAck, releaseAck}
 use Rattle.rules.specs.Kinds.{kindLoad, kindStore, kindLoadMiss, kindStoreMiss, kindEvict, kindSendAcquire, kindTakeAcquire, kindSendProbe, kindTakeProbe, kindSendProbeAck, kindTakeProbeAck, kindTakeGrant, kindSendGrantAck, kindSendGrant, kindTakeGrantAck, kindSendRelease, kindTakeRelease, kindSendReleaseAck, kindTakeReleaseAck}
 use Rattle.rules.specs.With.{withDirty, withValue, withPhase, withPurpose, withRequester, withProbe, withCap, withRelease, withA, withB, withE}
 use Rattle.rules.specs.Cells.{rights, entry, toProbe, pending, node, link, value}
@@ -128,14 +128,14 @@ SendReleaseAckWrites s e x k t =
     Writes s t x k (rights s x) (withRelease (node s x) noChild)
     (filledD releaseAck 0 (link s k)) (entry s x) (toProbe s x) (pending s x)
 
-module _ (s : State) (z : Sized s) (e : Event) (hx : e .node < nodes) where
-  same-entries : (k i : ℕ) → i < nodes → with-at (entry s (e .node)) k (entry s (e .node) k) i ≡ entry s (e .node) i
+module _ (s : State) (z : Sized s) (e : Event) (hx : e .node < nodeLimit) where
+  same-entries : (k i : ℕ) → i < nodeLimit → with-at (entry s (e .node)) k (entry s (e .node) k) i ≡ entry s (e .node) i
   same-entries k i _ = with-same (entry s (e .node)) k i
 
-  same-listed : (k i : ℕ) → i < nodes → with-at (toProbe s (e .node)) k (toProbe s (e .node) k) i ≡ toProbe s (e .node) i
+  same-listed : (k i : ℕ) → i < nodeLimit → with-at (toProbe s (e .node)) k (toProbe s (e .node) k) i ≡ toProbe s (e .node) i
   same-listed k i _ = with-same (toProbe s (e .node)) k i
 
-  same-pending : (k i : ℕ) → i < nodes → with-at (pending s (e .node)) k (pending s (e .node) k) i ≡ pending s (e .node) i
+  same-pending : (k i : ℕ) → i < nodeLimit → with-at (pending s (e .node)) k (pending s (e .node) k) i ≡ pending s (e .node) i
   same-pending k i _ = with-same (pending s (e .node)) k i
 
   -- 1
@@ -211,7 +211,7 @@ module _ (s : State) (z : Sized s) (e : Event) (hx : e .node < nodes) where
       effect-writes s z (e .node) hx (e .node) hx (kindOf kindTakeReleaseAck) e (sceneOf s (e .node) (e .node)) (kindOf kindTakeReleaseAck .does (sceneOf s (e .node) (e .node)) e) (same-entries (e .node)) (same-listed (e .node)) (same-pending (e .node))
 
   -- on the link of a child
-  module _ (k : ℕ) (hk : k < nodes) where
+  module _ (k : ℕ) (hk : k < nodeLimit) where
     -- 7
     pub take-acquire-writes : TakeAcquireWrites s e (e .node) k (after kindTakeAcquire s e k)
     unfolding numbered choose takeAcquireDoes settledPhase

@@ -6,7 +6,7 @@ use mathlib.Core.Logic.{_≢_, _⊎_, inl, inr}
 use Prim.Native.Nat.{ℕ, _<_, _≤_}
 use native.Mathlib.Decide.{ℕ-discrete}
 use native.Mathlib.Omega.{arith}
-use Rattle.rules.specs.Codes.{nodes}
+use Rattle.rules.specs.Codes.{nodeLimit}
 use Rattle.rules.specs.Cells.{parent, rights, entry, toProbe, pending, node, link}
 use Rattle.rules.specs.declared.State.{State}
 use Rattle.rules.specs.declared.Node.{Node}
@@ -31,7 +31,7 @@ pub record Everywhere (L : LinkClauses) (N : NodeClauses) (s : State) : Type 0 w
 -- clauses on a node read the cells of its rows, one by one
 pub record Cellwise (N : NodeClauses) : Type 0 where
   pub same : {x r : ℕ} {m : Node} {es es′ : ℕ → ℕ} {ws ws′ ps ps′ : ℕ → Bool}
-      → ((k : ℕ) → k < nodes → es′ k ≡ es k) → ((k : ℕ) → k < nodes → ws′ k ≡ ws k) → ((k : ℕ) → k < nodes → ps′ k ≡ ps k)
+      → ((k : ℕ) → k < nodeLimit → es′ k ≡ es k) → ((k : ℕ) → k < nodeLimit → ws′ k ≡ ws k) → ((k : ℕ) → k < nodeLimit → ps′ k ≡ ps k)
       → N x r m es ws ps → N x r m es′ ws′ ps′
 
 -- off x and the links around it the clauses L and N give L′ and N′
@@ -59,27 +59,27 @@ child-other {s} good {x} {k} c e =
 
 module _ {s t : State} {x j r : ℕ} {m : Node} {l : Link} {es : ℕ → ℕ} {ws ps : ℕ → Bool} (w : Writes s t x j r m l es ws ps)
     (good : Tree (s .count) (s .parents)) (inside : x < s .count) where
-  small : (k : ℕ) → k < s .count → k < nodes
-  small k h = let a : s .count ≤ nodes = good .most in omega arith
+  small : (k : ℕ) → k < s .count → k < nodeLimit
+  small k h = let a : s .count ≤ nodeLimit = good .most in omega arith
 
   own-view : 0 < x → view t x ≡ ownView s x r m (link t x)
   own-view a =
       let up : parent s x < x = good .smaller x a inside in
       let n : parent s x ≢ x = omega arith in
-      let b : x < nodes = small x inside in
+      let b : x < nodeLimit = small x inside in
       rw (w .parents)
       (view-same (w .nodes .off _ n) (w .nodes .at) (w .rights .at) (w .entries .off _ x b n) (w .toProbe .off _ x b n) (w .pending .off _ x b n) refl)
 
   child-view : (k : ℕ) → Child s x k → view t k ≡ childView s k m (es k) (ws k) (ps k) (link t k)
   child-view k c =
-      let b : k < nodes = small k (c .inside) in
+      let b : k < nodeLimit = small k (c .inside) in
       let n : k ≢ x = child-other good c in
       rw (w .parents, c .parent)
       (view-same (w .nodes .at) (w .nodes .off k n) (w .rights .off k n) (w .entries .at k b) (w .toProbe .at k b) (w .pending .at k b) refl)
 
   far-view : (k : ℕ) → k < s .count → k ≢ x → parent s k ≢ x → k ≢ j → view t k ≡ view s k
   far-view k h a n o =
-      let b : k < nodes = small k h in
+      let b : k < nodeLimit = small k h in
       rw (w .parents)
       (view-same (w .nodes .off _ n) (w .nodes .off k a) (w .rights .off k a) (w .entries .off _ k b n) (w .toProbe .off _ k b n) (w .pending .off _ k b n) (w .links .off k o))
 

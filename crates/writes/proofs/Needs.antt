@@ -8,7 +8,7 @@ use lib.ListN.{getD}
 use lib.Dec.{eqb, ltb}
 use borrow.Author.Tests.{eqb-true, eqb-false, leb-true, ltb-true, not-true}
 use Rattle.words.proofs.Facts.{both, either, all-at, any-off}
-use Rattle.rules.specs.Codes.{nodes, rightsN, rightsB, none, trunk, nameB, nameTT, idle, ask, wait, confirm, give, await, letGo, leaving, noChild, empty, releaseAck}
+use Rattle.rules.specs.Codes.{nodeLimit, rightsN, rightsB, none, trunk, nameB, nameTT, idle, ask, wait, confirm, give, await, letGo, leaving, noChild, empty, releaseAck}
 use Rattle.rules.specs.Cells.{cell, parent, rights, entry, toProbe, pending, node}
 use Rattle.rules.specs.Tree.{childBy, isChild}
 use Rattle.rules.specs.Names.{someIn, noneIn, othersNoneIn, memberIn, named, setsEmpty, noEntries, someEntry, noOtherEntries}
@@ -43,31 +43,31 @@ child s x k h =
     record { inside = ltb-true _ _ (w .0); below = isnt _ _ (w .1); parent = is _ _ (u .1) }
 
 -- the rows
-pub member-off : (t : List Bool) (x : ℕ) → memberIn t x ≡ false → (k : ℕ) → k < nodes → getD t (cell x k) false ≡ false
+pub member-off : (t : List Bool) (x : ℕ) → memberIn t x ≡ false → (k : ℕ) → k < nodeLimit → getD t (cell x k) false ≡ false
 unfolding memberIn
-member-off t x h k l = any-off (λ j. getD t (cell x j) false) nodes k h l
+member-off t x h k l = any-off (λ j. getD t (cell x j) false) nodeLimit k h l
 
 -- both sets of x are empty
 pub record NoMembers (s : State) (x : ℕ) : Type 0 where
-  pub toProbe : (k : ℕ) → k < nodes → toProbe s x k ≡ false
-  pub pending : (k : ℕ) → k < nodes → pending s x k ≡ false
+  pub toProbe : (k : ℕ) → k < nodeLimit → toProbe s x k ≡ false
+  pub pending : (k : ℕ) → k < nodeLimit → pending s x k ≡ false
 
 pub no-members : (s : State) (x : ℕ) → setsEmpty s x ≡ true → NoMembers s x
 no-members s x h =
     let u = both _ _ h in
     record { toProbe = member-off (s .«to_probe») x (not-true _ (u .0)); pending = member-off (s .pending) x (not-true _ (u .1)) }
 
-pub all-none : (s : State) (x : ℕ) → noEntries s x ≡ true → (k : ℕ) → k < nodes → entry s x k ≡ none
+pub all-none : (s : State) (x : ℕ) → noEntries s x ≡ true → (k : ℕ) → k < nodeLimit → entry s x k ≡ none
 unfolding noneIn
-all-none s x h k l = is _ _ (all-at (λ j. eqb (entry s x j) none) nodes k h l)
+all-none s x h k l = is _ _ (all-at (λ j. eqb (entry s x j) none) nodeLimit k h l)
 
-pub no-entry : (s : State) (x e : ℕ) → someEntry s x e ≡ false → (k : ℕ) → k < nodes → entry s x k ≢ e
+pub no-entry : (s : State) (x e : ℕ) → someEntry s x e ≡ false → (k : ℕ) → k < nodeLimit → entry s x k ≢ e
 unfolding someIn
-no-entry s x e h k l = eqb-false _ _ (any-off (λ j. eqb (entry s x j) e) nodes k h l)
+no-entry s x e h k l = eqb-false _ _ (any-off (λ j. eqb (entry s x j) e) nodeLimit k h l)
 
-pub others-none : (s : State) (x q : ℕ) → noOtherEntries s x q ≡ true → (k : ℕ) → k < nodes → k ≢ q → entry s x k ≡ none
+pub others-none : (s : State) (x q : ℕ) → noOtherEntries s x q ≡ true → (k : ℕ) → k < nodeLimit → k ≢ q → entry s x k ≡ none
 unfolding othersNoneIn
-others-none s x q h k l n = go (either _ _ (all-at (λ j. eqb j q || eqb (entry s x j) none) nodes k h l))
+others-none s x q h k l n = go (either _ _ (all-at (λ j. eqb j q || eqb (entry s x j) none) nodeLimit k h l))
   where
     go : (eqb k q ≡ true) ⊎ (eqb (entry s x k) none ≡ true) → entry s x k ≡ none
     go (inl e) = absurd (n (is _ _ e))
@@ -272,7 +272,7 @@ pub record SendReleaseNeeds (s : State) (x : ℕ) : Type 0 where
   pub main : phase s x ≡ letGo
   pub release : noted s x ≡ noChild
   pub slot : slotC s x ≡ empty
-  pub entries : (k : ℕ) → k < nodes → entry s x k ≡ none
+  pub entries : (k : ℕ) → k < nodeLimit → entry s x k ≡ none
   pub rights : rights s x ≢ rightsN
 
 pub send-release-needs : (s : State) (x : ℕ) → sendReleaseNeeds (sceneOf s x x) ≡ true → SendReleaseNeeds s x

@@ -10,7 +10,7 @@ use lib.ListN.{length, set, getD}
 use lib.Dec.{eqb}
 use Rattle.words.specs.Vocab.{any, choose}
 use Rattle.words.proofs.Facts.{any-same, choose-at, choose-off}
-use Rattle.rules.specs.Codes.{nodes, cells}
+use Rattle.rules.specs.Codes.{nodeLimit, cells}
 use Rattle.rules.specs.Cells.{blankNode, blankLink, cell, rights, entry, toProbe, pending, node, link}
 use Rattle.rules.specs.With.{withPhase}
 use Rattle.rules.specs.Names.{memberIn}
@@ -32,13 +32,13 @@ use Rattle.writes.proofs.Put.{Put, put, Row, row-put, row-over, row-as}
 
 -- The arrays of a State are as long as its type says.
 pub record Sized (s : State) : Type 0 where
-  pub parents : length (s .parents) ≡ nodes
-  pub rights : length (s .rights) ≡ nodes
+  pub parents : length (s .parents) ≡ nodeLimit
+  pub rights : length (s .rights) ≡ nodeLimit
   pub entries : length (s .entries) ≡ cells
   pub toProbe : length (s .«to_probe») ≡ cells
   pub pending : length (s .pending) ≡ cells
-  pub links : length (s .links) ≡ nodes
-  pub nodes : length (s .nodes) ≡ nodes
+  pub links : length (s .links) ≡ nodeLimit
+  pub nodes : length (s .nodes) ≡ nodeLimit
 
 -- t is s after a step at x that leaves the rights r and the fields m there, the link of j as l, and the rows es, ws and ps.
 pub record Writes (s t : State) (x j r : ℕ) (m : Node) (l : Link) (es : ℕ → ℕ) (ws ps : ℕ → Bool) : Type 0 where
@@ -68,7 +68,7 @@ with-at f k v j = choose (eqb j k) v (f j)
 
 -- both rows have no member
 abbrev pub noMembers : (ℕ → Bool) → (ℕ → Bool) → Bool
-noMembers ws ps = not (any ws nodes) && not (any ps nodes)
+noMembers ws ps = not (any ws nodeLimit) && not (any ps nodeLimit)
 
 -- the fields m, with the rights r and the sets ws and ps, after settle
 abbrev pub settledBy : Bool → (ℕ → Bool) → (ℕ → Bool) → ℕ → Node → Node
@@ -82,18 +82,18 @@ probedRow Asked s x j v q b = λ k. probedFor (purposeFor (v .link .a)) (nameIn 
 probedRow Capped s x j v q b = λ k. probedBy (v .link .b) (entry s x k)
 
 -- a set's row as it is read
-members : {l l′ : List Bool} {x : ℕ} {f : ℕ → Bool} → Row false l l′ x f → memberIn l′ x ≡ any f nodes
+members : {l l′ : List Bool} {x : ℕ} {f : ℕ → Bool} → Row false l l′ x f → memberIn l′ x ≡ any f nodeLimit
 unfolding memberIn
-members {l′ = l′} {x = x} {f = f} w = any-same (λ k. getD l′ (cell x k) false) f nodes (w .at)
+members {l′ = l′} {x = x} {f = f} w = any-same (λ k. getD l′ (cell x k) false) f nodeLimit (w .at)
 
-module _ (s : State) (z : Sized s) (x : ℕ) (hx : x < nodes) where
+module _ (s : State) (z : Sized s) (x : ℕ) (hx : x < nodeLimit) where
   nx : x < length (s .nodes)
   nx = omega (arith, z .nodes)
 
   rx : x < length (s .rights)
   rx = omega (arith, z .rights)
 
-  module _ (j : ℕ) (hj : j < nodes) where
+  module _ (j : ℕ) (hj : j < nodeLimit) where
     lj : j < length (s .links)
     lj = omega (arith, z .links)
 
@@ -107,9 +107,9 @@ module _ (s : State) (z : Sized s) (x : ℕ) (hx : x < nodes) where
 
     -- the law: what the effect w of the kind k leaves, with the rows es, ws and ps as they are read
     pub effect-writes : (k : Kind) (e : Event) (v w : Scene) {es : ℕ → ℕ} {ws ps : ℕ → Bool}
-        → ((i : ℕ) → i < nodes → with-at (entry s x) j (w .entry) i ≡ es i)
-        → ((i : ℕ) → i < nodes → probedRow (k .row .probes) s x j v (e .other) (w .«to_probe») i ≡ ws i)
-        → ((i : ℕ) → i < nodes → with-at (pending s x) j (w .pending) i ≡ ps i)
+        → ((i : ℕ) → i < nodeLimit → with-at (entry s x) j (w .entry) i ≡ es i)
+        → ((i : ℕ) → i < nodeLimit → probedRow (k .row .probes) s x j v (e .other) (w .«to_probe») i ≡ ws i)
+        → ((i : ℕ) → i < nodeLimit → with-at (pending s x) j (w .pending) i ≡ ps i)
         → Writes s (effectOf k s x j e v w) x j (w .rights) (settledNode (k .row .settles) (noMembers ws ps) (w .node) (w .rights)) (w .link) es ws ps
     effect-writes k e v w {es} {ws} {ps} f g h = record {
       count = refl;

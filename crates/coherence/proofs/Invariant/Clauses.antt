@@ -5,7 +5,7 @@ use mathlib.Core.Logic.{_≢_}
 use Prim.Native.Nat.{ℕ, _<_}
 use lib.Dec.{eqb, leb}
 use Rattle.words.specs.Vocab.{choose}
-use Rattle.rules.specs.Codes.{nodes, rightsN, rightsB, tip, none, branch, trunk, clear, confirm, leaving, empty, releaseAck}
+use Rattle.rules.specs.Codes.{nodeLimit, rightsN, rightsB, tip, none, branch, trunk, clear, confirm, leaving, empty, releaseAck}
 use Rattle.rules.specs.Cells.{rights, entry, toProbe, pending, node}
 use Rattle.rules.specs.Tree.{goodTree}
 use Rattle.rules.specs.Messages.{installs, fromTrunk, isProbeAck, isRelease, isGrant, carriesDown, entryFor}
@@ -105,15 +105,15 @@ pub record NodeOk (v x r : ℕ) (m : Node) (es : ℕ → ℕ) (ws ps : ℕ → B
   -- ROOT: the root is Tip
   pub root : x ≡ 0 → r ≡ tip
   -- ROW: beside a Trunk entry all are None
-  pub row : (a b : ℕ) → a < nodes → b < nodes → a ≢ b → es a ≡ trunk → es b ≡ none
+  pub row : (a b : ℕ) → a < nodeLimit → b < nodeLimit → a ≢ b → es a ≡ trunk → es b ≡ none
   -- PROBE: an open probe is served in Idle, Wait or Leaving
   pub probe : m .probe ≡ true → servesProbes (m .phase) ≡ true
   -- SETS: a set has members only in Clear or while the probe is open
-  pub sets : (k : ℕ) → k < nodes → (ws k || ps k) ≡ true → (eqb (m .phase) clear || m .probe) ≡ true
+  pub sets : (k : ℕ) → k < nodeLimit → (ws k || ps k) ≡ true → (eqb (m .phase) clear || m .probe) ≡ true
   -- DISJ: no child is in both sets
-  pub apart : (k : ℕ) → k < nodes → ws k ≡ true → ps k ≡ false
+  pub apart : (k : ℕ) → k < nodeLimit → ws k ≡ true → ps k ≡ false
   -- LAST: Tip with no Trunk entry holds the last value
-  pub last : r ≡ tip → ((k : ℕ) → k < nodes → es k ≢ trunk) → m .value ≡ v
+  pub last : r ≡ tip → ((k : ℕ) → k < nodeLimit → es k ≢ trunk) → m .value ≡ v
 
 -- The invariant: the clauses at every link and node of a configuration on a good tree.
 pub record Inv (s : State) (v : ℕ) : Type 0 where

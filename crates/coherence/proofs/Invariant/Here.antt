@@ -9,7 +9,7 @@ use borrow.Author.Tests.{ne-eqb}
 use lib.Dec.{eqb}
 use Rattle.words.specs.Vocab.{choose}
 use Rattle.words.proofs.Facts.{either, decided, or-right}
-use Rattle.rules.specs.Codes.{nodes, rightsN, tip, none, trunk, clear, await}
+use Rattle.rules.specs.Codes.{nodeLimit, rightsN, tip, none, trunk, clear, await}
 use Rattle.rules.specs.Cells.{parent, rights, entry, toProbe, pending}
 use Rattle.rules.specs.Messages.{installs, isGrant, carriesDown}
 use Rattle.rules.specs.Probe.{servesProbes}
@@ -34,8 +34,8 @@ module _ {s : State} {v : ℕ} (i : Inv s v) where
   pub good : Tree (s .count) (s .parents)
   good = tree (s .count) (s .parents) (i .tree)
 
-  pub small : (y : ℕ) → y < s .count → y < nodes
-  small y h = let a : s .count ≤ nodes = good .most in omega arith
+  pub small : (y : ℕ) → y < s .count → y < nodeLimit
+  small y h = let a : s .count ≤ nodeLimit = good .most in omega arith
 
   -- number 2 at a node
   pub fit-at : (y : ℕ) → y < s .count → Fits s y
@@ -57,7 +57,7 @@ module _ {s : State} {v : ℕ} (i : Inv s v) where
       go (inr d) = d
 
   -- a node at N has no entry
-  pub bare : (x k : ℕ) → x < s .count → k < nodes → rights s x ≡ rightsN → entry s x k ≡ none
+  pub bare : (x k : ℕ) → x < s .count → k < nodeLimit → rights s x ≡ rightsN → entry s x k ≡ none
   bare x k h l e = go (ℕ-discrete (entry s x k) none)
     where
       go : Dec (entry s x k ≡ none) → entry s x k ≡ none
@@ -65,7 +65,7 @@ module _ {s : State} {v : ℕ} (i : Inv s v) where
       go (no n) = absurd (held (fit-at x h .pairs k l) n e)
 
   -- CALM: a node with a member in a set does not await
-  pub calm : (x k : ℕ) → x < s .count → k < nodes → (toProbe s x k || pending s x k) ≡ true → phase s x ≢ await
+  pub calm : (x k : ℕ) → x < s .count → k < nodeLimit → (toProbe s x k || pending s x k) ≡ true → phase s x ≢ await
   unfolding servesProbes choose
   calm x k h l m e = go (either _ _ (i .nodes x h .sets k l m))
     where
@@ -78,7 +78,7 @@ module _ {s : State} {v : ℕ} (i : Inv s v) where
     pub positive : 0 < k
     positive = let n : k ≢ 0 = c .below in omega arith
 
-    pub child-small : k < nodes
+    pub child-small : k < nodeLimit
     child-small = small k (c .inside)
 
     pub inside-above : x < s .count
@@ -112,7 +112,7 @@ module _ {s : State} {v : ℕ} (i : Inv s v) where
     no-data = dataless codes-of (child-ok .agree)
 
     -- CALM on the links: where a child of x is pending, no Grant is on its way to any
-    pub no-grant : (j : ℕ) → j < nodes → pending s x j ≡ true → isGrant (slotD s k) ≡ false
+    pub no-grant : (j : ℕ) → j < nodeLimit → pending s x j ≡ true → isGrant (slotD s k) ≡ false
     no-grant j l m =
         let n = calm x j inside-above l (or-right (toProbe s x j) _ m) in
         token-in (token-at _ _ _ _ (child-ok .grants)) (not-awaited (phase s x) (requester s x) k n) .0

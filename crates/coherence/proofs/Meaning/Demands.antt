@@ -9,7 +9,7 @@ use native.Mathlib.Omega.{arith}
 use lib.Dec.{eqb}
 use Rattle.words.specs.Vocab.{all}
 use Rattle.words.proofs.Facts.{both, and-true, choose-false}
-use Rattle.rules.specs.Codes.{nodes, levels, rightsN, rightsB, tip, none, trunk, nameTT, empty}
+use Rattle.rules.specs.Codes.{nodeLimit, levels, rightsN, rightsB, tip, none, trunk, nameTT, empty}
 use Rattle.rules.specs.Cells.{parent, rights, entry, link, value}
 use Rattle.rules.specs.Names.{named, readable}
 use Rattle.rules.specs.Configuration.{slotsEmpty}
@@ -43,7 +43,7 @@ module _ {s : State} {v : ℕ} (i : Inv s v) where
   sole : (x y : ℕ) → x < s .count → y < s .count → named s x ≡ nameTT → readable s y ≡ true → y ≡ x
   sole x y hx hy e r = go (ℕ-discrete y x)
     where
-      neither : (rights s y ≡ rightsN) ⊎ Above s y → (rights s y ≡ rightsB) ⊎ ((rights s y ≡ tip) × ((k : ℕ) → k < nodes → entry s y k ≢ trunk)) → ⊥
+      neither : (rights s y ≡ rightsN) ⊎ Above s y → (rights s y ≡ rightsB) ⊎ ((rights s y ≡ tip) × ((k : ℕ) → k < nodeLimit → entry s y k ≢ trunk)) → ⊥
       neither (inl a) (inl b) = omega arith
       neither (inl a) (inr u) = let b : rights s y ≡ tip = u .0 in omega arith
       neither (inr a) (inl b) =
@@ -86,7 +86,7 @@ module _ {s : State} {v : ℕ} (i : Inv s v) where
       copied = ok .copy (λ e. omega arith) (clean i y h (λ e. omega arith))
 
       -- a Branch entry: the parent has no Trunk entry
-      shared : entry s p y ≢ trunk → (k : ℕ) → k < nodes → entry s p k ≢ trunk
+      shared : entry s p y ≢ trunk → (k : ℕ) → k < nodeLimit → entry s p k ≢ trunk
       shared e k m f = at (ℕ-discrete k y)
         where
           at : Dec (k ≡ y) → ⊥
@@ -109,7 +109,7 @@ module _ {s : State} {v : ℕ} (i : Inv s v) where
   fresh : (x : ℕ) → x < s .count → readable s x ≡ true → value s x ≡ v
   fresh x h r = go (readable-is s x r)
     where
-      go : (rights s x ≡ rightsB) ⊎ ((rights s x ≡ tip) × ((k : ℕ) → k < nodes → entry s x k ≢ trunk)) → value s x ≡ v
+      go : (rights s x ≡ rightsB) ⊎ ((rights s x ≡ tip) × ((k : ℕ) → k < nodeLimit → entry s x k ≢ trunk)) → value s x ≡ v
       go (inl b) = held-b (suc x) x (omega arith) h b
       go (inr u) = i .nodes x h .last (u .0) (u .1)
 

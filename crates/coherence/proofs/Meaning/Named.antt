@@ -7,7 +7,7 @@ use native.Mathlib.Omega.{arith}
 use borrow.Author.Tests.{eqb-true}
 use lib.Dec.{eqb}
 use Rattle.words.proofs.Facts.{by-test}
-use Rattle.rules.specs.Codes.{nodes, levels, rightsB, tip, none, branch, trunk, nameN, nameB, nameT, nameTB, nameTT}
+use Rattle.rules.specs.Codes.{nodeLimit, levels, rightsB, tip, none, branch, trunk, nameN, nameB, nameT, nameTB, nameTT}
 use Rattle.rules.specs.Cells.{rights, entry}
 use Rattle.rules.specs.Names.{nameOf, named, readableName, readable, someEntry}
 use Rattle.rules.specs.declared.State.{State}
@@ -47,31 +47,31 @@ tops (is-tb e f) h = absurd (omega arith)
 tops (is-tt e f g) h = (e, f, g)
 
 -- readable: B, or Tip without a Trunk entry
-pub readable-is : (s : State) (x : ℕ) → readable s x ≡ true → (rights s x ≡ rightsB) ⊎ ((rights s x ≡ tip) × ((k : ℕ) → k < nodes → entry s x k ≢ trunk))
+pub readable-is : (s : State) (x : ℕ) → readable s x ≡ true → (rights s x ≡ rightsB) ⊎ ((rights s x ≡ tip) × ((k : ℕ) → k < nodeLimit → entry s x k ≢ trunk))
 readable-is s x h = go (reads (called (rights s x) (someEntry s x trunk) (someEntry s x branch)) h)
   where
     go : (rights s x ≡ rightsB) ⊎ ((rights s x ≡ tip) × (someEntry s x trunk ≡ false))
-        → (rights s x ≡ rightsB) ⊎ ((rights s x ≡ tip) × ((k : ℕ) → k < nodes → entry s x k ≢ trunk))
+        → (rights s x ≡ rightsB) ⊎ ((rights s x ≡ tip) × ((k : ℕ) → k < nodeLimit → entry s x k ≢ trunk))
     go (inl e) = inl e
     go (inr u) = inr (u .0, no-entry s x trunk (u .1))
 
 module _ {s : State} {v : ℕ} (i : Inv s v) (x : ℕ) (h : x < s .count) where
   -- so in either case no entry is Trunk
-  pub readable-untrunked : readable s x ≡ true → (k : ℕ) → k < nodes → entry s x k ≢ trunk
+  pub readable-untrunked : readable s x ≡ true → (k : ℕ) → k < nodeLimit → entry s x k ≢ trunk
   readable-untrunked r k l = go (readable-is s x r)
     where
-      go : (rights s x ≡ rightsB) ⊎ ((rights s x ≡ tip) × ((k : ℕ) → k < nodes → entry s x k ≢ trunk)) → entry s x k ≢ trunk
+      go : (rights s x ≡ rightsB) ⊎ ((rights s x ≡ tip) × ((k : ℕ) → k < nodeLimit → entry s x k ≢ trunk)) → entry s x k ≢ trunk
       go (inr u) z = u .1 k l z
       go (inl b) z = let t : rights s x ≡ tip = trunk-tip (fit-at i x h .pairs k l) z in omega arith
 
   -- TT: Tip, and all entries are None
-  pub tt-is : named s x ≡ nameTT → (rights s x ≡ tip) × ((k : ℕ) → k < nodes → entry s x k ≡ none)
+  pub tt-is : named s x ≡ nameTT → (rights s x ≡ tip) × ((k : ℕ) → k < nodeLimit → entry s x k ≡ none)
   tt-is e = (u .0, nothing)
     where
       u : (rights s x ≡ tip) × (someEntry s x trunk ≡ false) × (someEntry s x branch ≡ false)
       u = tops (called (rights s x) (someEntry s x trunk) (someEntry s x branch)) e
 
-      nothing : (k : ℕ) → k < nodes → entry s x k ≡ none
+      nothing : (k : ℕ) → k < nodeLimit → entry s x k ≡ none
       nothing k l =
           let a : entry s x k ≢ trunk = no-entry s x trunk (u .1) k l in
           let b : entry s x k ≢ branch = no-entry s x branch (u .2) k l in

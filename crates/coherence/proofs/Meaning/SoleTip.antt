@@ -6,7 +6,7 @@ use Prim.Native.Nat.{ℕ, zero, suc, _<_, _≤_}
 use native.Mathlib.Nat.{not-suc-le-zero}
 use native.Mathlib.Decide.{ℕ-discrete}
 use native.Mathlib.Omega.{arith}
-use Rattle.rules.specs.Codes.{nodes, levels, rightsN, tip, none, trunk}
+use Rattle.rules.specs.Codes.{nodeLimit, levels, rightsN, tip, none, trunk}
 use Rattle.rules.specs.Cells.{parent, rights, entry}
 use Rattle.rules.specs.declared.State.{State}
 use Rattle.writes.proofs.Needs.{Child}
@@ -34,7 +34,7 @@ module _ {s : State} {v : ℕ} (i : Inv s v) where
       let l : entry s y z < levels = codes-of i c .entry in
       omega arith
 
-  module _ (x : ℕ) (inside : x < s .count) (top : rights s x ≡ tip) (nothing : (k : ℕ) → k < nodes → entry s x k ≡ none) where
+  module _ (x : ℕ) (inside : x < s .count) (top : rights s x ≡ tip) (nothing : (k : ℕ) → k < nodeLimit → entry s x k ≡ none) where
     -- all on the way up are Tip
     path-tip : {y : ℕ} → Path s x y → rights s y ≡ tip
     path-tip here = top

@@ -9,7 +9,7 @@ use borrow.Author.Tests.{eqb-true}
 use lib.Dec.{eqb}
 use Rattle.words.specs.Vocab.{choose}
 use Rattle.words.proofs.Facts.{either, neither, implies, decided, clash, choose-false, or-left, or-right}
-use Rattle.rules.specs.Codes.{nodes, tip, none, trunk, leaving, empty, releaseAck}
+use Rattle.rules.specs.Codes.{nodeLimit, tip, none, trunk, leaving, empty, releaseAck}
 use Rattle.rules.specs.With.{withDirty, withValue, withPhase, withRelease}
 use Rattle.rules.specs.Cells.{rights, entry, toProbe, pending, node, link, value}
 use Rattle.rules.specs.Messages.{installs, isGrant}
@@ -66,10 +66,10 @@ module _ {s : State} {v : ℕ} (i : Inv s v) {x k : ℕ} (child : Child s x k) (
       go (inr d) = choose-false _ _ d
 
   -- LAST: the trunk ended on the link of k, or x held the last value and keeps it
-  last-taken : (e : ℕ) → rights s k ≢ tip → rights s x ≡ tip → ((j : ℕ) → j < nodes → with-at (entry s x) k e j ≢ trunk) → got ≡ v
+  last-taken : (e : ℕ) → rights s k ≢ tip → rights s x ≡ tip → ((j : ℕ) → j < nodeLimit → with-at (entry s x) k e j ≢ trunk) → got ≡ v
   last-taken e short top none = go (ℕ-discrete (entry s x k) trunk)
     where
-      off : entry s x k ≢ trunk → (j : ℕ) → j < nodes → Dec (j ≡ k) → entry s x j ≢ trunk
+      off : entry s x k ≢ trunk → (j : ℕ) → j < nodeLimit → Dec (j ≡ k) → entry s x j ≢ trunk
       off n j l (yes h) f = n (ap (entry s x) (sym h) ∙ f)
       off n j l (no h) f = none j l (with-there (entry s x) k e j h ∙ f)
 

@@ -6,7 +6,7 @@ use Prim.Native.Nat.{ℕ, _<_, _≤_}
 use native.Mathlib.Decide.{ℕ-discrete}
 use native.Mathlib.Omega.{arith}
 use Rattle.words.proofs.Facts.{choose-at, choose-off, clash}
-use Rattle.rules.specs.Codes.{nodes, none, trunk}
+use Rattle.rules.specs.Codes.{nodeLimit, none, trunk}
 use Rattle.writes.proofs.Writes.{with-at}
 
 module _ {A : Type 0} (f : ℕ → A) (k : ℕ) (v : A) where
@@ -32,7 +32,7 @@ less-one f k = record { off = λ j n. with-there f k false j n; sub = λ j e. su
     sub j e (no n) = sym (with-there f k false j n) ∙ e
 
 -- ROW holds on where one entry fell, and not to Trunk
-module _ (es : ℕ → ℕ) (k e : ℕ) (bound : k < nodes) (low : e ≢ trunk) (under : e ≤ es k) where
+module _ (es : ℕ → ℕ) (k e : ℕ) (bound : k < nodeLimit) (low : e ≢ trunk) (under : e ≤ es k) where
   -- a Trunk entry that is there was there, and not at k
   pub trunk-was : (a : ℕ) → with-at es k e a ≡ trunk → (a ≢ k) × (es a ≡ trunk)
   trunk-was a h = go (ℕ-discrete a k)
@@ -41,8 +41,8 @@ module _ (es : ℕ → ℕ) (k e : ℕ) (bound : k < nodes) (low : e ≢ trunk) 
       go (yes f) = absurd (low (sym (choose-at a k e (es a) f) ∙ h))
       go (no n) = (n, sym (with-there es k e a n) ∙ h)
 
-  pub row-fell : ((a b : ℕ) → a < nodes → b < nodes → a ≢ b → es a ≡ trunk → es b ≡ none)
-      → (a b : ℕ) → a < nodes → b < nodes → a ≢ b → with-at es k e a ≡ trunk → with-at es k e b ≡ none
+  pub row-fell : ((a b : ℕ) → a < nodeLimit → b < nodeLimit → a ≢ b → es a ≡ trunk → es b ≡ none)
+      → (a b : ℕ) → a < nodeLimit → b < nodeLimit → a ≢ b → with-at es k e a ≡ trunk → with-at es k e b ≡ none
   row-fell row a b la lb n h = go (ℕ-discrete b k)
     where
       was : (a ≢ k) × (es a ≡ trunk)

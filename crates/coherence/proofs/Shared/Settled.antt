@@ -8,7 +8,7 @@ use borrow.Author.Tests.{eqb-true, ne-eqb}
 use lib.Dec.{eqb}
 use Rattle.words.specs.Vocab.{any, choose}
 use Rattle.words.proofs.Facts.{both, either, any-at, by-test}
-use Rattle.rules.specs.Codes.{nodes, rightsN, tip, idle, clear, confirm, await, leaving}
+use Rattle.rules.specs.Codes.{nodeLimit, rightsN, tip, idle, clear, confirm, await, leaving}
 use Rattle.rules.specs.Settle.{nextPhase, phaseAfter}
 use Rattle.rules.specs.Probe.{servesProbes}
 use Rattle.rules.specs.Release.{awaits}
@@ -62,13 +62,13 @@ unfolding servesProbes choose
 still-served b ph pu r h = rw (unmoved b ph pu r (λ e. false≢true (rw e at h))) h
 
 -- where a member is left, a new purpose is in Clear, and without one the phase stays
-module _ (ws ps : ℕ → Bool) (k : ℕ) (b : k < nodes) (h : (ws k || ps k) ≡ true) where
+module _ (ws ps : ℕ → Bool) (k : ℕ) (b : k < nodeLimit) (h : (ws k || ps k) ≡ true) where
   member-seen : noMembers ws ps ≡ false
   member-seen = go (either (ws k) (ps k) h)
     where
       go : (ws k ≡ true) ⊎ (ps k ≡ true) → noMembers ws ps ≡ false
-      go (inl e) = rw (any-at ws nodes k b e)
-      go (inr e) = rw (any-at ps nodes k b e) (and-false (not (any ws nodes)))
+      go (inl e) = rw (any-at ws nodeLimit k b e)
+      go (inr e) = rw (any-at ps nodeLimit k b e) (and-false (not (any ws nodeLimit)))
 
   pub clear-with-member : (ph pu r : ℕ) → phaseAfter (noMembers ws ps) true ph pu r ≡ clear
   unfolding phaseAfter choose

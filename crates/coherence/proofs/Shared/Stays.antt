@@ -7,7 +7,7 @@ use Prim.Native.Nat.{ℕ, _<_}
 use native.Mathlib.Omega.{arith}
 use lib.Dec.{eqb}
 use Rattle.words.proofs.Facts.{clash}
-use Rattle.rules.specs.Codes.{nodes, none, clear, leaving}
+use Rattle.rules.specs.Codes.{nodeLimit, none, clear, leaving}
 use Rattle.rules.specs.With.{withA, withB, withE}
 use Rattle.rules.specs.Cells.{rights, entry, toProbe, pending, node, link, value}
 use Rattle.rules.specs.Probe.{servesProbes}
@@ -36,8 +36,8 @@ module _ {s : State} {v : ℕ} (i : Inv s v) {x : ℕ} (inside : x < s .count) w
 
   -- and with other members in to-probe, where none is pending
   pub node-probes : {m : Node} {ws : ℕ → Bool} → m .value ≡ value s x → (m .probe ≡ true → servesProbes (m .phase) ≡ true)
-      → ((k : ℕ) → k < nodes → (ws k || pending s x k) ≡ true → (eqb (m .phase) clear || m .probe) ≡ true)
-      → ((k : ℕ) → k < nodes → pending s x k ≡ false) → NodeOk v x (rights s x) m (entry s x) ws (pending s x)
+      → ((k : ℕ) → k < nodeLimit → (ws k || pending s x k) ≡ true → (eqb (m .phase) clear || m .probe) ≡ true)
+      → ((k : ℕ) → k < nodeLimit → pending s x k ≡ false) → NodeOk v x (rights s x) m (entry s x) ws (pending s x)
   node-probes f p c z =
       let q = i .nodes x inside in
       record { root = q .root; row = q .row; probe = p; sets = c; apart = λ k l _. z k l; last = rw f (q .last) }

@@ -9,7 +9,7 @@ use borrow.Author.Tests.{eqb-true, eqb-false, eq-eqb, ne-eqb, not-true}
 use lib.Dec.{eqb}
 use Rattle.words.specs.Vocab.{all, choose}
 use Rattle.words.proofs.Facts.{both, either, differ, choose-true, choose-false, by-test}
-use Rattle.rules.specs.Codes.{nodes, downs, tip, none, branch, trunk, nameTT, leaving, await, toLoad, toStore, empty, grantT, grantDataT, releaseAck, shared, sole}
+use Rattle.rules.specs.Codes.{nodeLimit, downs, tip, none, branch, trunk, nameTT, leaving, await, toLoad, toStore, empty, grantT, grantDataT, releaseAck, shared, sole}
 use Rattle.rules.specs.With.{withPhase}
 use Rattle.rules.specs.Cells.{rights, entry, toProbe, pending, node, link, value}
 use Rattle.rules.specs.Names.{named, readableName, readable, noOtherEntries}
@@ -39,8 +39,8 @@ use Rattle.coherence.proofs.Meaning.Named.{readable-untrunked, tt-is}
 record Lets (s : State) (x q d : ℕ) : Type 0 where
   code : d < downs
   grant : isGrant d ≡ true
-  untrunked : (k : ℕ) → k < nodes → entry s x k ≢ trunk
-  alone : entryFor d ≡ trunk → (rights s x ≡ tip) × ((k : ℕ) → k < nodes → k ≢ q → entry s x k ≡ none)
+  untrunked : (k : ℕ) → k < nodeLimit → entry s x k ≢ trunk
+  alone : entryFor d ≡ trunk → (rights s x ≡ tip) × ((k : ℕ) → k < nodeLimit → k ≢ q → entry s x k ≡ none)
 
 -- the codes of the link: the entry, which was not Trunk, becomes what is granted
 module _ {r e c k d : ℕ} (w : Codes r e c k d) (g : isGrant d ≡ true) where
@@ -77,7 +77,7 @@ module _ {s : State} {v : ℕ} (i : Inv s v) {x : ℕ} (inside : x < s .count) (
       (λ _. record { code = omega arith; grant = refl; untrunked = λ k l. at k l (ℕ-discrete k q); alone = λ _. (t, others-none s x q o) })
       (λ _. record { code = omega arith; grant = refl; untrunked = λ k l. at k l (ℕ-discrete k q); alone = λ _. (t, others-none s x q o) })
     where
-      at : (k : ℕ) → k < nodes → Dec (k ≡ q) → entry s x k ≢ trunk
+      at : (k : ℕ) → k < nodeLimit → Dec (k ≡ q) → entry s x k ≢ trunk
       at k l (yes w) t = z (ap (entry s x) (sym w) ∙ t)
       at k l (no w) t = let p : entry s x k ≡ none = others-none s x q o k l w in omega arith
 
@@ -170,7 +170,7 @@ module _ {s : State} {v : ℕ} (i : Inv s v) (e : Event) {x : ℕ} (inside : x <
         last = λ t _. holds t;
       }
     where
-      rows : (a b : ℕ) → a < nodes → b < nodes → a ≢ b → row a ≡ trunk → Dec (a ≡ q) → row b ≡ none
+      rows : (a b : ℕ) → a < nodeLimit → b < nodeLimit → a ≢ b → row a ≡ trunk → Dec (a ≡ q) → row b ≡ none
       rows a b la lb o e (yes f) =
           let g : b ≢ q = λ z. o (f ∙ sym z) in
           row-other b g ∙ may .alone (sym row-q ∙ (ap row (sym f) ∙ e)) .1 b lb g

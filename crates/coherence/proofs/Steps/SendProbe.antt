@@ -7,7 +7,7 @@ use native.Mathlib.Decide.{ℕ-discrete}
 use native.Mathlib.Omega.{arith}
 use lib.Dec.{eqb}
 use Rattle.words.proofs.Facts.{differ, clash, choose-at, by-test, or-left}
-use Rattle.rules.specs.Codes.{nodes, clear, empty}
+use Rattle.rules.specs.Codes.{nodeLimit, clear, empty}
 use Rattle.rules.specs.Cells.{rights, entry, toProbe, pending, node}
 use Rattle.rules.specs.Messages.{isProbeAck}
 use Rattle.rules.specs.Configuration.{configurationOk}
@@ -56,11 +56,11 @@ module _ {s : State} {v : ℕ} (i : Inv s v) (e : Event) {x k : ℕ} (inside : x
     last = q .last;
   }
     where
-      sets : (j : ℕ) → j < nodes → Dec (j ≡ k) → (with-at (toProbe s x) k false j || with-at (pending s x) k true j) ≡ true → (eqb (phase s x) clear || probing s x) ≡ true
+      sets : (j : ℕ) → j < nodeLimit → Dec (j ≡ k) → (with-at (toProbe s x) k false j || with-at (pending s x) k true j) ≡ true → (eqb (phase s x) clear || probing s x) ≡ true
       sets j l (yes e) h = q .sets j l (or-left (toProbe s x j) (pending s x j) (rw e (n .toProbe)))
       sets j l (no o) h = q .sets j l (rw (with-there (toProbe s x) k false j o, with-there (pending s x) k true j o) at h)
 
-      apart : (j : ℕ) → j < nodes → Dec (j ≡ k) → with-at (toProbe s x) k false j ≡ true → with-at (pending s x) k true j ≡ false
+      apart : (j : ℕ) → j < nodeLimit → Dec (j ≡ k) → with-at (toProbe s x) k false j ≡ true → with-at (pending s x) k true j ≡ false
       apart j l (yes e) h = clash h (choose-at j k false (toProbe s x j) e)
       apart j l (no o) h = with-there (pending s x) k true j o ∙ q .apart j l (sym (with-there (toProbe s x) k false j o) ∙ h)
 

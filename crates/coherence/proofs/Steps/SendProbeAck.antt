@@ -8,7 +8,7 @@ use borrow.Author.Tests.{eqb-true, not-true, le-leb, eq-eqb, ne-eqb}
 use lib.Dec.{eqb, leb}
 use Rattle.words.specs.Vocab.{all}
 use Rattle.words.proofs.Facts.{and-true, choose-false}
-use Rattle.rules.specs.Codes.{nodes, ups, keeps, rightsN, tip, none, trunk, empty, probeAck, probeAckData}
+use Rattle.rules.specs.Codes.{nodeLimit, ups, keeps, rightsN, tip, none, trunk, empty, probeAck, probeAckData}
 use Rattle.rules.specs.Cells.{parent, rights, entry, toProbe, pending, node, link, value}
 use Rattle.rules.specs.Messages.{installs, isProbeAck, isGrant}
 use Rattle.rules.specs.Scenes.{valueAt, filledC}
@@ -67,14 +67,14 @@ module _ {s : State} {v : ℕ} (i : Inv s v) (e : Event) {x : ℕ} (inside : x <
   was-vacant = and-true _ _ (rw (n .slot) at (ok .agree)) (ap not (no-grant i (own-child i x pos inside) x (small i x inside) (held .0)))
 
   -- no entry is Trunk
-  untrunked : (k : ℕ) → k < nodes → entry s x k ≢ trunk
+  untrunked : (k : ℕ) → k < nodeLimit → entry s x k ≢ trunk
   unfolding capMet
   untrunked k l =
       by-cap (λ (b : Bool). b ≡ true → entry s x k ≢ trunk) _ (cap s x) (λ _ h. absurd (false≢true h)) (λ _ h. no-entry s x trunk (not-true _ h) k l)
       (λ _ h e. let f : entry s x k ≡ none = all-none s x h k l in omega arith) (λ h. absurd (false≢true h)) (n .met)
 
   -- rights that fall to N leave no entry
-  no-entries : low ≡ rightsN → (k : ℕ) → k < nodes → entry s x k ≡ none
+  no-entries : low ≡ rightsN → (k : ℕ) → k < nodeLimit → entry s x k ≡ none
   unfolding capMet
   no-entries e k l =
       by-cap (λ (b : Bool). b ≡ true → entry s x k ≡ none) _ (cap s x) (λ _ h. absurd (false≢true h)) (λ c _. bare i x k inside l (fallen-none _ _ c e))

@@ -9,7 +9,7 @@ use borrow.Author.Tests.{eq-eqb}
 use lib.Dec.{eqb}
 use Rattle.words.specs.Vocab.{all, choose}
 use Rattle.words.proofs.Facts.{differ}
-use Rattle.rules.specs.Codes.{nodes, rightsN, tip, none, trunk, empty, release, releaseData, releaseAck}
+use Rattle.rules.specs.Codes.{nodeLimit, rightsN, tip, none, trunk, empty, release, releaseData, releaseAck}
 use Rattle.rules.specs.Cells.{parent, rights, entry, toProbe, pending, node, link, value}
 use Rattle.rules.specs.Messages.{installs, isRelease}
 use Rattle.rules.specs.Scenes.{filledC}
@@ -50,7 +50,7 @@ module _ {s : State} {v : ℕ} (i : Inv s v) (e : Event) {x : ℕ} (inside : x <
   codes : Codes (rights s x) (entry s (parent s x) x) (slotC s x) (kept s x) (slotD s x)
   codes = codes-of i (own-child i x pos inside)
 
-  untrunked : (k : ℕ) → k < nodes → entry s x k ≢ trunk
+  untrunked : (k : ℕ) → k < nodeLimit → entry s x k ≢ trunk
   untrunked k l f = let o : entry s x k ≡ none = n .entries k l in omega arith
 
   -- x holds the last value where it is Tip: it has no entry

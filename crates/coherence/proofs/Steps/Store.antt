@@ -5,7 +5,7 @@ use mathlib.Core.Logic.{_≢_, _⊎_, inl, inr}
 use Prim.Native.Nat.{ℕ, _<_}
 use native.Mathlib.Decide.{ℕ-discrete}
 use native.Mathlib.Omega.{arith}
-use Rattle.rules.specs.Codes.{nodes, rightsN, tip, none, trunk}
+use Rattle.rules.specs.Codes.{nodeLimit, rightsN, tip, none, trunk}
 use Rattle.rules.specs.Cells.{parent, rights, entry, toProbe, pending, node, link}
 use Rattle.rules.specs.Scenes.{stored}
 use Rattle.rules.specs.Configuration.{configurationOk}
@@ -25,7 +25,7 @@ module _ {s : State} {v : ℕ} (i : Inv s v) (e : Event) {x : ℕ} (inside : x <
   abbrev new : ℕ
   new = e .value
 
-  sole : (rights s x ≡ tip) × ((k : ℕ) → k < nodes → entry s x k ≡ none)
+  sole : (rights s x ≡ tip) × ((k : ℕ) → k < nodeLimit → entry s x k ≡ none)
   sole = tt-is i x inside (n .name)
 
   own : 0 < x → LinkOk new (ownView s x (rights s x) (stored new (node s x)) (link s x)) x
@@ -84,7 +84,7 @@ module _ {s : State} {v : ℕ} (i : Inv s v) (e : Event) {x : ℕ} (inside : x <
   far-node y h n q =
       record { root = q .root; row = q .row; probe = q .probe; sets = q .sets; apart = q .apart; last = λ t o. absurd (ends t o (others y h n)) }
     where
-      ends : rights s y ≡ tip → ((k : ℕ) → k < nodes → entry s y k ≢ trunk) → (rights s y ≡ rightsN) ⊎ Above s y → ⊥
+      ends : rights s y ≡ tip → ((k : ℕ) → k < nodeLimit → entry s y k ≢ trunk) → (rights s y ≡ rightsN) ⊎ Above s y → ⊥
       ends t o (inl z) = omega arith
       ends t o (inr u) = o (u .towards) (child-small i (u .child)) (u .entry)
 

@@ -8,7 +8,7 @@ use borrow.Author.Tests.{eqb-true, eq-eqb}
 use lib.Dec.{eqb}
 use Rattle.words.specs.Vocab.{all, choose}
 use Rattle.words.proofs.Facts.{both, implies, clash, decided, choose-true, choose-false, by-test}
-use Rattle.rules.specs.Codes.{nodes, rightsN, rightsB, tip, none, confirm, empty, grantT, grantDataT, grantDataB, releaseAck}
+use Rattle.rules.specs.Codes.{nodeLimit, rightsN, rightsB, tip, none, confirm, empty, grantT, grantDataT, grantDataB, releaseAck}
 use Rattle.rules.specs.With.{withDirty, withValue, withPhase}
 use Rattle.rules.specs.Cells.{parent, rights, entry, toProbe, pending, node, link, value}
 use Rattle.rules.specs.Messages.{installs, isProbeAck, isRelease, isGrant, carriesDown, grantedRights}
@@ -111,7 +111,7 @@ module _ {s : State} {v : ℕ} (i : Inv s v) (e : Event) {x : ℕ} (inside : x <
           choose-false _ _ f ∙ (rw slot at (ok .copy (λ z. omega arith) (clean i x inside low)))
 
   -- a child with an entry: x was not at N, and its value stays
-  stays : (k : ℕ) → k < nodes → entry s x k ≢ none → new ≡ value s x
+  stays : (k : ℕ) → k < nodeLimit → entry s x k ≢ none → new ≡ value s x
   unfolding installed
   stays k l h = go (decided (carriesDown (slotD s x)))
     where

@@ -7,7 +7,7 @@ use Prim.Native.Nat.{ℕ, _<_, _≤_}
 use native.Mathlib.Decide.{ℕ-discrete}
 use native.Mathlib.Omega.{arith}
 use borrow.Author.Tests.{ne-eqb}
-use Rattle.rules.specs.Codes.{nodes, rightsN, tip, none, noChild}
+use Rattle.rules.specs.Codes.{nodeLimit, rightsN, tip, none, noChild}
 use Rattle.rules.specs.With.{withValue}
 use Rattle.rules.specs.Cells.{blankNode, blankLink, parent, rights, entry, toProbe, pending, node, link, value}
 use Rattle.rules.specs.Tree.{treeOk}
@@ -47,19 +47,19 @@ module _ (n : ℕ) (ps : List ℕ) (v : ℕ) (ok : treeOk n ps ≡ true) where
   good : Tree (s .count) (s .parents)
   good = tree _ _ (start-tree n ps v ok)
 
-  small : (y : ℕ) → y < s .count → y < nodes
-  small y h = let a : s .count ≤ nodes = good .most in omega arith
+  small : (y : ℕ) → y < s .count → y < nodeLimit
+  small y h = let a : s .count ≤ nodeLimit = good .most in omega arith
 
   -- a node's fields are blank but for its value
-  fields : (y : ℕ) → y < nodes → Dec (y ≡ 0) → (u : ℕ) × (node s y ≡ withValue blankNode u)
+  fields : (y : ℕ) → y < nodeLimit → Dec (y ≡ 0) → (u : ℕ) × (node s y ≡ withValue blankNode u)
   fields y h (yes e) = (v, rw e (root-fields n ps v))
   fields y h (no o) = (0, start-fields n ps v y h o)
 
   links : (k : ℕ) → 0 < k → k < s .count → LinkOk v (view s k) k
   links k a b =
-      let l : k < nodes = small k b in
+      let l : k < nodeLimit = small k b in
       let p : parent s k < k = good .smaller k a b in
-      let pl : parent s k < nodes = omega arith in
+      let pl : parent s k < nodeLimit = omega arith in
       let o : k ≢ 0 = omega arith in
       let f = fields (parent s k) pl (ℕ-discrete (parent s k) 0) in
       rw (f .1, start-fields n ps v k l o, start-rights n ps v k l o, start-entry n ps v (parent s k) k pl l, start-listed n ps v (parent s k) k pl l, start-waits n ps v (parent s k) k pl l, start-link n ps v k l)
@@ -82,7 +82,7 @@ module _ (n : ℕ) (ps : List ℕ) (v : ℕ) (ok : treeOk n ps ≡ true) where
         last = λ t _. last l t (ℕ-discrete y 0);
       }
     where
-      last : y < nodes → rights s y ≡ tip → Dec (y ≡ 0) → value s y ≡ v
+      last : y < nodeLimit → rights s y ≡ tip → Dec (y ≡ 0) → value s y ≡ v
       last l t (yes e) = rw e (ap (λ (m : Node). m .value) (root-fields n ps v))
       last l t (no o) = let z : rights s y ≡ rightsN = start-rights n ps v y l o in absurd (omega arith)
 

@@ -9,7 +9,7 @@ use borrow.Author.Tests.{eqb-false, not-true, not-false}
 use lib.Dec.{eqb}
 use Rattle.words.specs.Vocab.{choose}
 use Rattle.words.proofs.Facts.{by-test}
-use Rattle.rules.specs.Codes.{nodes, accepts, rightsN, tip, nameB, nameTT, toLoad, toStore}
+use Rattle.rules.specs.Codes.{nodeLimit, accepts, rightsN, tip, nameB, nameTT, toLoad, toStore}
 use Rattle.rules.specs.Kinds.{kindLoad, kindStore}
 use Rattle.rules.specs.Cells.{rights, node, value}
 use Rattle.rules.specs.Tree.{treeOk, isChild, isLeaf}
@@ -70,10 +70,10 @@ module _ (s : State) (v : ℕ) (e : Event) (i : Inv s v) (inside : e .node < s .
   z = i .sized
 
   -- x and its children stand in the arrays
-  bound : e .node < nodes
+  bound : e .node < nodeLimit
   bound = small i (e .node) inside
 
-  child-bound : (k : ℕ) → isChild s (e .node) k ≡ true → k < nodes
+  child-bound : (k : ℕ) → isChild s (e .node) k ≡ true → k < nodeLimit
   child-bound k h = child-small i (child s (e .node) k h)
 
   -- the last value after a store, and after a kind that stores nothing

@@ -4,7 +4,7 @@ use lib.ListN.{getD}
 use lib.Dec.{eqb}
 use mathlib.Core.Bool.{_||_}
 use Rattle.words.specs.Vocab.{all}
-use Rattle.rules.specs.Codes.{nodes, none}
+use Rattle.rules.specs.Codes.{nodeLimit, none}
 use Rattle.rules.specs.Cells.{cell}
 use Rattle.rules.specs.Names.{othersNoneIn}
 use Rattle.words.proofs.Laws.{scans}
@@ -12,14 +12,14 @@ use Rattle.parts.proofs.sets.others_none.Statement.{statement}
 use Rattle.parts.proofs.sets.others_none.Tie as tie
 
 abbrev Inv-loop : tie.InvT-loop
-Inv-loop entries x q acc₀ k₀ acc k = (k ≤ nodes) × (acc ≡ all (λ j. eqb j q || eqb (getD entries (cell x j) 0) none) k)
+Inv-loop entries x q acc₀ k₀ acc k = (k ≤ nodeLimit) × (acc ≡ all (λ j. eqb j q || eqb (getD entries (cell x j) 0) none) k)
 
 pub others-none-spec : {M : Type 1} → statement M
 unfolding othersNoneIn
 others-none-spec =
     tie.close (tie.spec
     Inv-loop
-    (λ entries x q acc₀ k₀ acc k. nodes - k)
+    (λ entries x q acc₀ k₀ acc k. nodeLimit - k)
     (λ c. search scans)
     (λ c. search scans)
     (λ c. search scans)

@@ -3,7 +3,7 @@ use Prim.Native.Nat.{_≤_, _-_}
 use lib.ListN.{getD}
 use lib.Dec.{eqb}
 use Rattle.words.specs.Vocab.{any}
-use Rattle.rules.specs.Codes.{nodes}
+use Rattle.rules.specs.Codes.{nodeLimit}
 use Rattle.rules.specs.Cells.{cell}
 use Rattle.rules.specs.Names.{someIn}
 use Rattle.words.proofs.Laws.{scans}
@@ -11,14 +11,14 @@ use Rattle.parts.proofs.sets.some_entry.Statement.{statement}
 use Rattle.parts.proofs.sets.some_entry.Tie as tie
 
 abbrev Inv-loop : tie.InvT-loop
-Inv-loop entries x e acc₀ k₀ acc k = (k ≤ nodes) × (acc ≡ any (λ j. eqb (getD entries (cell x j) 0) e) k)
+Inv-loop entries x e acc₀ k₀ acc k = (k ≤ nodeLimit) × (acc ≡ any (λ j. eqb (getD entries (cell x j) 0) e) k)
 
 pub some-entry-spec : {M : Type 1} → statement M
 unfolding someIn
 some-entry-spec =
     tie.close (tie.spec
     Inv-loop
-    (λ entries x e acc₀ k₀ acc k. nodes - k)
+    (λ entries x e acc₀ k₀ acc k. nodeLimit - k)
     (λ c. search scans)
     (λ c. search scans)
     (λ c. search scans)

@@ -4,21 +4,21 @@ use Prim.Native.Nat.{_≤_, _-_, _+_}
 use lib.ListN.{replicate}
 use Rattle.words.specs.Vocab.{fill}
 use Rattle.words.proofs.Laws.{loops}
-use Rattle.rules.specs.Codes.{nodes}
+use Rattle.rules.specs.Codes.{nodeLimit}
 use Rattle.octets.specs.BigEndian.{byte}
 use Rattle.records.specs.StateBytes.{byteRowAt}
 use Rattle.records.proofs.read.byte_row_at.Statement.{statement}
 use Rattle.records.proofs.read.byte_row_at.Tie as tie
 
 abbrev Inv-loop : tie.InvT-loop
-Inv-loop s i row₀ k₀ row k = (k ≤ nodes) × (row ≡ fill (λ j. byte s (i + j)) 0 k (replicate nodes 0))
+Inv-loop s i row₀ k₀ row k = (k ≤ nodeLimit) × (row ≡ fill (λ j. byte s (i + j)) 0 k (replicate nodeLimit 0))
 
 pub byte-row-at-spec : {M : Type 1} → statement M
 unfolding byteRowAt
 byte-row-at-spec =
     tie.close (tie.spec
     Inv-loop
-    (λ s i row₀ k₀ row k. nodes - k)
+    (λ s i row₀ k₀ row k. nodeLimit - k)
     (λ c. search loops)
     (λ c. search loops)
     (λ c κs. search loops)

@@ -5,14 +5,14 @@ use Prim.Native.Nat.{_≤_, _-_, _+_}
 use lib.ListN.{replicate}
 use Rattle.words.specs.Vocab.{fill}
 use Rattle.words.proofs.Laws.{loops}
-use Rattle.rules.specs.Codes.{nodes}
+use Rattle.rules.specs.Codes.{nodeLimit}
 use Rattle.octets.specs.BigEndian.{byte}
 use Rattle.trails.specs.Trail.{parentsOf}
 use Rattle.trails.proofs.first.parents.Statement.{statement}
 use Rattle.trails.proofs.first.parents.Tie as tie
 
 abbrev Inv-loop : tie.InvT-loop
-Inv-loop s n ps₀ k₀ k-end ps k = (k ≤ n - 1) × (ps ≡ fill (λ j. byte s (11 + j)) 1 k (replicate nodes 0))
+Inv-loop s n ps₀ k₀ k-end ps k = (k ≤ n - 1) × (ps ≡ fill (λ j. byte s (11 + j)) 1 k (replicate nodeLimit 0))
 
 pub parents-spec : {M : Type 1} → statement M
 unfolding parentsOf
