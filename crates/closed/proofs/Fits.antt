@@ -6,7 +6,7 @@ use Rattle.words.proofs.Facts.{both, and-true, all-at, all-from}
 use Rattle.rules.specs.Codes.{nodeLimit}
 use Rattle.rules.specs.Cells.{rights, entry, toProbe, pending, node, link}
 use Rattle.rules.specs.Tree.{isChild, isLeaf}
-use Rattle.rules.specs.Configuration.{linkOk, nodeAt, standsAt, pairAt, rowAt, rightAt, configurationOk}
+use Rattle.rules.specs.Configuration.{linkOk, ownAt, standsAt, pairAt, rowAt, rightAt, configurationOk}
 use Rattle.rules.specs.declared.State.{State}
 use Rattle.closed.proofs.Subjects.{Own, own, own-ok, Slots, slots, slots-ok, Pair, pair, pair-ok}
 
@@ -22,7 +22,7 @@ unfolding rightAt
 fits-at s y h =
     let a = both _ (rowAt s y) h in
     let b = both _ (standsAt s y) (a .0) in
-    let c = both (nodeAt s y) (linkOk (link s y)) (b .0) in
+    let c = both (ownAt s y) (linkOk (link s y)) (b .0) in
     record {
       own = own _ _ _ _ (c .0);
       link = slots _ (c .1);

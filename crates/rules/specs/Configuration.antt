@@ -96,8 +96,8 @@ unfoldable pub standsOk : ℕ → ℕ → ℕ → ℕ → Node → Link → Bool
 standsOk n x p r m l = ((ltb 0 x && ltb x n) || (eqb p 0 && slotsEmpty l)) && (ltb x n || blank r m)
 
 -- the tests at x, by subject
-abbrev pub nodeAt : State → ℕ → Bool
-nodeAt s x = nodeOk (isLeaf s x) (isChild s x (node s x .requester)) (isChild s x (node s x .release)) (rights s x) (node s x)
+abbrev pub ownAt : State → ℕ → Bool
+ownAt s x = nodeOk (isLeaf s x) (isChild s x (node s x .requester)) (isChild s x (node s x .release)) (rights s x) (node s x)
 
 abbrev pub pairAt : State → ℕ → ℕ → Bool
 pairAt s x k = pairOk (rights s x) (isChild s x k) (entry s x k) (toProbe s x k) (pending s x k)
@@ -109,7 +109,7 @@ abbrev pub standsAt : State → ℕ → Bool
 standsAt s x = standsOk (s .count) x (parent s x) (rights s x) (node s x) (link s x)
 
 unfoldable pub rightAt : State → ℕ → Bool
-rightAt s x = nodeAt s x && linkOk (link s x) && standsAt s x && rowAt s x
+rightAt s x = ownAt s x && linkOk (link s x) && standsAt s x && rowAt s x
 
 -- no clause of the list is broken
 unfoldable pub configurationOk : State → Bool

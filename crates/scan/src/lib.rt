@@ -5,7 +5,7 @@ ghost use Prim.Native.Nat.{_<_};
 ghost use Rattle.rules.specs.Codes.{nodeLimit};
 ghost use Rattle.rules.specs.Tree.{childBy};
 ghost use Rattle.rules.specs.Configuration.{copyOk, serving, evicting, workOk, atLeaf, leafOk, hasRequester, requesterOk, childOk, probeOk, nodeOk, upOk, downOk, linkOk, pairOk, slotsEmpty, blank, standsOk, configurationOk};
-ghost use Rattle.scan.specs.Parts.{nodeIn, pairIn, rowIn, rightIn};
+ghost use Rattle.scan.specs.Scanned.{ownIn, pairIn, rowIn, rightIn};
 use choices::messages::carries_down;
 use choices::messages::carries_up;
 use choices::messages::is_probe_ack;
@@ -281,8 +281,8 @@ fn stands_ok(count: u8, x: u8, p: u8, r: u8, m: Node, l: Link) -> bool
     (((0 < x) & (x < count)) | ((p == 0) & empty)) & ((x < count) | bare)
 }
 
-fn node_at(count: u8, parents: &[u8; State::NODES], x: u8, r: u8, m: Node) -> bool
-    ensures { λ res. ⌜ res ≡ nodeIn count (now (parents .entry)) x r m ⌝ }
+fn own_at(count: u8, parents: &[u8; State::NODES], x: u8, r: u8, m: Node) -> bool
+    ensures { λ res. ⌜ res ≡ ownIn count (now (parents .entry)) x r m ⌝ }
 {
     let leaf = is_leaf(count, parents, x);
     let asks = is_child(count, parents, x, m.requester);
@@ -304,7 +304,7 @@ fn right_at<'a>(
     requires { ⌜ x < nodeLimit ⌝ }
     ensures { λ res. ⌜ res ≡ rightIn count (now (parents .entry)) (now (entries .entry)) (now («to_probe» .entry)) (now (pending .entry)) x r m l ⌝ }
 {
-    let node = node_at(count, parents, x as u8, r, m);
+    let node = own_at(count, parents, x as u8, r, m);
     let link = link_ok(l);
     let stands = stands_ok(count, x as u8, parents[x], r, m, l);
     let row = row_at(count, parents, entries, to_probe, pending, r, x);

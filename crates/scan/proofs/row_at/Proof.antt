@@ -2,7 +2,7 @@ use mathlib.Core.Path.{_≡_}
 use Prim.Native.Nat.{_≤_, _-_}
 use Rattle.words.specs.Vocab.{all}
 use Rattle.rules.specs.Codes.{nodeLimit}
-use Rattle.scan.specs.Parts.{pairIn}
+use Rattle.scan.specs.Scanned.{pairIn}
 use Rattle.words.proofs.Laws.{scans}
 use Rattle.scan.proofs.row_at.Statement.{statement}
 use Rattle.scan.proofs.row_at.Tie as tie

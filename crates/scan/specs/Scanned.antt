@@ -12,9 +12,9 @@ use Rattle.rules.specs.Configuration.{nodeOk, linkOk, pairOk, standsOk}
 use Rattle.rules.specs.declared.Node.{Node}
 use Rattle.rules.specs.declared.Link.{Link}
 
--- nodeAt, of a node with rights r and fields m
-abbrev pub nodeIn : ℕ → List ℕ → ℕ → ℕ → Node → Bool
-nodeIn n ps x r m = nodeOk (leafIn n ps x) (childIn n ps x (m .requester)) (childIn n ps x (m .release)) r m
+-- ownAt, of a node with rights r and fields m
+abbrev pub ownIn : ℕ → List ℕ → ℕ → ℕ → Node → Bool
+ownIn n ps x r m = nodeOk (leafIn n ps x) (childIn n ps x (m .requester)) (childIn n ps x (m .release)) r m
 
 -- pairAt, of a node with rights r
 abbrev pub pairIn : ℕ → List ℕ → List ℕ → List Bool → List Bool → ℕ → ℕ → ℕ → Bool
@@ -26,4 +26,4 @@ rowIn n ps es ws us r x = all (pairIn n ps es ws us r x) nodeLimit
 
 -- rightAt, of a node with rights r, fields m and link l
 abbrev pub rightIn : ℕ → List ℕ → List ℕ → List Bool → List Bool → ℕ → ℕ → Node → Link → Bool
-rightIn n ps es ws us x r m l = nodeIn n ps x r m && linkOk l && standsOk n x (getD ps x 0) r m l && rowIn n ps es ws us r x
+rightIn n ps es ws us x r m l = ownIn n ps x r m && linkOk l && standsOk n x (getD ps x 0) r m l && rowIn n ps es ws us r x
