@@ -3,7 +3,7 @@ use mathlib.Core.Path.{_≡_}
 use Prim.Native.Nat.{ℕ, zero, suc}
 use borrow.Author.Tests.{ne-eqb}
 use Rattle.words.specs.Vocab.{choose}
-use Rattle.words.proofs.Laws.{steps}
+use Rattle.words.proofs.Meeting.{steps}
 use Rattle.rules.specs.Codes.{idle, clear, ask, wait, confirm, give, await, letGo, leaving, phases, noPurpose, toLoad, toStore, toEvict, purposes, noCap, capB, capN, caps, empty, acquireB, acquireT, acquireU, acquires, probeAck, probeAckData, release, releaseData, ups, grantT, grantDataT, grantDataB, releaseAck, downs}
 use Rattle.rules.specs.Cases.{PerPhase, perPhase, PerPurpose, perPurpose, PerCap, perCap, PerAcquire, perAcquire, PerUp, perUp, PerDown, perDown}
 

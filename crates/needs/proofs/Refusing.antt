@@ -7,7 +7,7 @@ use native.Mathlib.Omega.{arith}
 use borrow.Author.Tests.{le-leb, lt-leb}
 use lib.Dec.{leb}
 use Rattle.words.specs.Vocab.{choose}
-use Rattle.words.proofs.Laws.{tests}
+use Rattle.words.proofs.Meeting.{tests}
 use Rattle.rules.specs.Codes.{accepts}
 use Rattle.rules.specs.Step.{Refusal, refusal, firstOf}
 

@@ -11,7 +11,7 @@ use lib.ListN.{set, getD}
 use lib.Seq.{set-getD}
 use lib.Dec.{eqb, leb, ltb}
 use Rattle.words.specs.Vocab.{choose}
-use Rattle.words.proofs.Laws.{tests}
+use Rattle.words.proofs.Meeting.{tests}
 use Rattle.words.proofs.Facts.{both, decided, choose-true, choose-false}
 use Rattle.rules.specs.Codes.{nodeLimit, accepts, badTree, notAConfiguration, badEvent, wrongPlace, outOfTurn}
 use Rattle.rules.specs.Cells.{node, link}

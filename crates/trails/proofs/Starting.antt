@@ -11,7 +11,7 @@ use lib.ListN.{length, take, drop, take-append-drop}
 use lib.Seq.{sets-eq, length-sets, take-at, drop-at}
 use lib.Dec.{leb, eqb}
 use Rattle.words.proofs.Facts.{both, decided, choose-true, choose-false}
-use Rattle.words.proofs.Laws.{told-not, told-true}
+use Rattle.words.proofs.Meeting.{told-not, told-true}
 use Rattle.io.specs.Counts.{Counts}
 use Rattle.rules.specs.Codes.{nodeLimit}
 use Rattle.rules.specs.Tree.{goodTree}

@@ -9,7 +9,7 @@ use lib.ListN.{getD, set, length, length-set}
 use lib.Seq.{getD-set-same, getD-set-other}
 use lib.Dec.{eqb}
 use Rattle.words.specs.Vocab.{fill, choose}
-use Rattle.words.proofs.Laws.{length-fill}
+use Rattle.words.proofs.Meeting.{length-fill}
 use Rattle.words.proofs.Facts.{choose-at, choose-off, getD-fill-at, getD-fill-off}
 use Rattle.rules.specs.Codes.{nodeLimit, cells}
 use Rattle.rules.specs.Cells.{cell}

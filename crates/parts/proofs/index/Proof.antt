@@ -1,5 +1,5 @@
 use Rattle.parts.specs.Parts.{indexOf}
-use Rattle.words.proofs.Laws.{steps}
+use Rattle.words.proofs.Meeting.{steps}
 use Rattle.parts.proofs.index.Statement.{statement}
 use Rattle.parts.proofs.index.Tie as tie
 

@@ -1,5 +1,5 @@
 use Rattle.rules.specs.Configuration.{blank}
-use Rattle.words.proofs.Laws.{joins}
+use Rattle.words.proofs.Meeting.{joins}
 use Rattle.scan.proofs.blank.Statement.{statement}
 use Rattle.scan.proofs.blank.Tie as tie
 

@@ -1,6 +1,6 @@
 use Rattle.rules.specs.Configuration.{memberOk, entryOk, pairOk}
 use Rattle.rules.specs.Table.{listed}
-use Rattle.words.proofs.Laws.{joins}
+use Rattle.words.proofs.Meeting.{joins}
 use Rattle.scan.proofs.pair_ok.Statement.{statement}
 use Rattle.scan.proofs.pair_ok.Tie as tie
 

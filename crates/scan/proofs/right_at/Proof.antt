@@ -1,5 +1,5 @@
 use borrow.Author.Needs.{needs}
-use Rattle.words.proofs.Laws.{joins}
+use Rattle.words.proofs.Meeting.{joins}
 use Rattle.scan.proofs.right_at.Statement.{statement}
 use Rattle.scan.proofs.right_at.Tie as tie
 

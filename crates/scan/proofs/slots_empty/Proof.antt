@@ -1,5 +1,5 @@
 use Rattle.rules.specs.Configuration.{slotsEmpty}
-use Rattle.words.proofs.Laws.{joins}
+use Rattle.words.proofs.Meeting.{joins}
 use Rattle.scan.proofs.slots_empty.Statement.{statement}
 use Rattle.scan.proofs.slots_empty.Tie as tie
 

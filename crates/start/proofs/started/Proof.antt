@@ -1,6 +1,6 @@
 use Rattle.rules.specs.Step.{resetOf}
 use borrow.Author.Needs.{needs}
-use Rattle.words.proofs.Laws.{tests, choose-yes, choose-no}
+use Rattle.words.proofs.Meeting.{tests, choose-yes, choose-no}
 use Rattle.start.proofs.started.Statement.{statement}
 use Rattle.start.proofs.started.Tie as tie
 

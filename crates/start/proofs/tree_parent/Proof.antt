@@ -1,6 +1,6 @@
 use Rattle.rules.specs.Step.{treeParent}
 use borrow.Author.Needs.{needs}
-use Rattle.words.proofs.Laws.{steps}
+use Rattle.words.proofs.Meeting.{steps}
 use Rattle.start.proofs.tree_parent.Statement.{statement}
 use Rattle.start.proofs.tree_parent.Tie as tie
 

@@ -4,7 +4,7 @@ use Rattle.rules.specs.Codes.{nodeLimit}
 use Rattle.words.specs.Vocab.{fill}
 use lib.ListN.{replicate}
 use Rattle.rules.specs.Step.{treeParent, treeParents}
-use Rattle.words.proofs.Laws.{loops}
+use Rattle.words.proofs.Meeting.{loops}
 use Rattle.start.proofs.tree_parents.Statement.{statement}
 use Rattle.start.proofs.tree_parents.Tie as tie
 

@@ -1,5 +1,5 @@
 use Rattle.rules.specs.Tree.{childBy}
-use Rattle.words.proofs.Laws.{steps}
+use Rattle.words.proofs.Meeting.{steps}
 use Rattle.trees.proofs.child_by.Statement.{statement}
 use Rattle.trees.proofs.child_by.Tie as tie
 

@@ -3,7 +3,7 @@ use Prim.Native.Nat.{_≤_, _-_}
 use Rattle.rules.specs.Codes.{nodeLimit}
 use Rattle.rules.specs.Tree.{childIn}
 use Rattle.words.specs.Vocab.{any}
-use Rattle.words.proofs.Laws.{scans}
+use Rattle.words.proofs.Meeting.{scans}
 use Rattle.trees.proofs.has_child.Statement.{statement}
 use Rattle.trees.proofs.has_child.Tie as tie
 

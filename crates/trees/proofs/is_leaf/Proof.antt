@@ -1,6 +1,6 @@
 use Rattle.rules.specs.Tree.{leafIn}
 use borrow.Author.Needs.{needs}
-use Rattle.words.proofs.Laws.{joins}
+use Rattle.words.proofs.Meeting.{joins}
 use Rattle.trees.proofs.is_leaf.Statement.{statement}
 use Rattle.trees.proofs.is_leaf.Tie as tie
 

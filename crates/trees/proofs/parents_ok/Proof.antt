@@ -3,7 +3,7 @@ use Prim.Native.Nat.{_≤_, _-_}
 use Rattle.rules.specs.Codes.{nodeLimit}
 use Rattle.rules.specs.Tree.{parentOk}
 use Rattle.words.specs.Vocab.{all}
-use Rattle.words.proofs.Laws.{scans}
+use Rattle.words.proofs.Meeting.{scans}
 use Rattle.trees.proofs.parents_ok.Statement.{statement}
 use Rattle.trees.proofs.parents_ok.Tie as tie
 

@@ -1,6 +1,6 @@
 use Rattle.rules.specs.Tree.{treeOk}
 use borrow.Author.Needs.{needs}
-use Rattle.words.proofs.Laws.{joins}
+use Rattle.words.proofs.Meeting.{joins}
 use Rattle.trees.proofs.tree_ok.Statement.{statement}
 use Rattle.trees.proofs.tree_ok.Tie as tie
 

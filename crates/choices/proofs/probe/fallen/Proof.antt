@@ -1,6 +1,6 @@
 use Rattle.rules.specs.Probe.{fallen}
 use borrow.Author.Needs.{needs}
-use Rattle.words.proofs.Laws.{steps}
+use Rattle.words.proofs.Meeting.{steps}
 use Rattle.choices.proofs.probe.fallen.Statement.{statement}
 use Rattle.choices.proofs.probe.fallen.Tie as tie
 

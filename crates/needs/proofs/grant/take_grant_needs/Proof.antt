@@ -1,6 +1,6 @@
 use Rattle.rules.specs.Grant.{takeGrantNeeds}
 use borrow.Author.Needs.{needs}
-use Rattle.words.proofs.Laws.{joins}
+use Rattle.words.proofs.Meeting.{joins}
 use Rattle.needs.proofs.grant.take_grant_needs.Statement.{statement}
 use Rattle.needs.proofs.grant.take_grant_needs.Tie as tie
 

@@ -2,7 +2,7 @@ use mathlib.Core.Path.{_≡_}
 use mathlib.Core.Bool.{Bool}
 use Prim.Native.Nat.{ℕ}
 use borrow.Author.Needs.{needs}
-use Rattle.words.proofs.Laws.{joins}
+use Rattle.words.proofs.Meeting.{joins}
 use Rattle.rules.specs.Events.{otherFits}
 use Rattle.rules.specs.declared.kinds.Other.{Other}
 use Rattle.needs.proofs.judge.event_ok.Statement.{statement}

@@ -1,7 +1,7 @@
 use mathlib.Core.Path.{_≡_}
 use mathlib.Core.Bool.{Bool}
 use borrow.Author.Needs.{needs}
-use Rattle.words.proofs.Laws.{joins}
+use Rattle.words.proofs.Meeting.{joins}
 use Rattle.rules.specs.Step.{linkThere}
 use Rattle.rules.specs.declared.kinds.End.{End}
 use Rattle.needs.proofs.judge.turn_ok.Statement.{statement}

@@ -1,5 +1,5 @@
 use Rattle.rules.specs.Probe.{sendProbeNeeds}
-use Rattle.words.proofs.Laws.{joins}
+use Rattle.words.proofs.Meeting.{joins}
 use Rattle.needs.proofs.probe.send_probe_needs.Statement.{statement}
 use Rattle.needs.proofs.probe.send_probe_needs.Tie as tie
 

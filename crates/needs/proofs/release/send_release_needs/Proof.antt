@@ -1,5 +1,5 @@
 use Rattle.rules.specs.Release.{sendReleaseNeeds}
-use Rattle.words.proofs.Laws.{joins}
+use Rattle.words.proofs.Meeting.{joins}
 use Rattle.needs.proofs.release.send_release_needs.Statement.{statement}
 use Rattle.needs.proofs.release.send_release_needs.Tie as tie
 

@@ -1,5 +1,5 @@
 use Rattle.octets.specs.Fields.{flagByte}
-use Rattle.words.proofs.Laws.{steps}
+use Rattle.words.proofs.Meeting.{steps}
 use Rattle.octets.proofs.put.flag_byte.Statement.{statement}
 use Rattle.octets.proofs.put.flag_byte.Tie as tie
 

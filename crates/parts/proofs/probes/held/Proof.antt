@@ -1,5 +1,5 @@
 use Rattle.rules.specs.Local.{held}
-use Rattle.words.proofs.Laws.{steps}
+use Rattle.words.proofs.Meeting.{steps}
 use Rattle.parts.proofs.probes.held.Statement.{statement}
 use Rattle.parts.proofs.probes.held.Tie as tie
 

@@ -6,7 +6,7 @@ use Rattle.words.specs.Vocab.{any}
 use Rattle.rules.specs.Codes.{nodeLimit}
 use Rattle.rules.specs.Cells.{cell}
 use Rattle.rules.specs.Names.{memberIn}
-use Rattle.words.proofs.Laws.{scans}
+use Rattle.words.proofs.Meeting.{scans}
 use Rattle.parts.proofs.sets.has_member.Statement.{statement}
 use Rattle.parts.proofs.sets.has_member.Tie as tie
 

@@ -6,7 +6,7 @@ use Rattle.words.specs.Vocab.{all}
 use Rattle.rules.specs.Codes.{nodeLimit, none}
 use Rattle.rules.specs.Cells.{cell}
 use Rattle.rules.specs.Names.{noneIn}
-use Rattle.words.proofs.Laws.{scans}
+use Rattle.words.proofs.Meeting.{scans}
 use Rattle.parts.proofs.sets.none_held.Statement.{statement}
 use Rattle.parts.proofs.sets.none_held.Tie as tie
 

@@ -7,7 +7,7 @@ use Rattle.words.specs.Vocab.{all}
 use Rattle.rules.specs.Codes.{nodeLimit, none}
 use Rattle.rules.specs.Cells.{cell}
 use Rattle.rules.specs.Names.{othersNoneIn}
-use Rattle.words.proofs.Laws.{scans}
+use Rattle.words.proofs.Meeting.{scans}
 use Rattle.parts.proofs.sets.others_none.Statement.{statement}
 use Rattle.parts.proofs.sets.others_none.Tie as tie
 

@@ -1,5 +1,5 @@
 use borrow.Author.Needs.{needs}
-use Rattle.words.proofs.Laws.{joins}
+use Rattle.words.proofs.Meeting.{joins}
 use Rattle.parts.proofs.sets.sets_empty.Statement.{statement}
 use Rattle.parts.proofs.sets.sets_empty.Tie as tie
 

@@ -4,7 +4,7 @@ use mathlib.Core.Bool.{false}
 use Prim.Native.Nat.{_≤_, _-_, _+_}
 use lib.ListN.{replicate}
 use Rattle.words.specs.Vocab.{fill}
-use Rattle.words.proofs.Laws.{loops}
+use Rattle.words.proofs.Meeting.{loops}
 use Rattle.rules.specs.Codes.{cells}
 use Rattle.octets.specs.Fields.{flagAt}
 use Rattle.records.specs.StateBytes.{flagCellsAt}

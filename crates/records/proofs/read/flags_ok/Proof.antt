@@ -1,6 +1,6 @@
 -- Printed by tools/print from crates/rules/src/lib.rt. `flags_ok` meets its contract, row by row.
 use borrow.Author.Needs.{needs}
-use Rattle.words.proofs.Laws.{joins}
+use Rattle.words.proofs.Meeting.{joins}
 use Rattle.records.specs.StateBytes.{flagsOk}
 use Rattle.records.proofs.read.flags_ok.Statement.{statement}
 use Rattle.records.proofs.read.flags_ok.Tie as tie

@@ -3,7 +3,7 @@ use mathlib.Core.Path.{_≡_}
 use mathlib.Core.Bool.{true}
 use Prim.Native.Nat.{_≤_, _-_, _+_, _*_}
 use Rattle.words.specs.Vocab.{all}
-use Rattle.words.proofs.Laws.{loops}
+use Rattle.words.proofs.Meeting.{loops}
 use Rattle.rules.specs.Codes.{nodeLimit}
 use Rattle.records.specs.Layout.{nodeSize}
 use Rattle.records.specs.StateBytes.{nodeFlagsOk, nodeRowOk}

@@ -1,6 +1,6 @@
 use Rattle.rules.specs.Grant.{confirmed}
 use borrow.Author.Needs.{needs}
-use Rattle.words.proofs.Laws.{steps}
+use Rattle.words.proofs.Meeting.{steps}
 use Rattle.table.proofs.grant.confirmed.Statement.{statement}
 use Rattle.table.proofs.grant.confirmed.Tie as tie
 

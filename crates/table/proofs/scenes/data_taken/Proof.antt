@@ -1,6 +1,6 @@
 use Rattle.rules.specs.Scenes.{dataTaken}
 use borrow.Author.Needs.{needs}
-use Rattle.words.proofs.Laws.{steps}
+use Rattle.words.proofs.Meeting.{steps}
 use Rattle.table.proofs.scenes.data_taken.Statement.{statement}
 use Rattle.table.proofs.scenes.data_taken.Tie as tie
 

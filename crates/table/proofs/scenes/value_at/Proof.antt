@@ -1,5 +1,5 @@
 use Rattle.rules.specs.Scenes.{valueAt}
-use Rattle.words.proofs.Laws.{steps}
+use Rattle.words.proofs.Meeting.{steps}
 use Rattle.table.proofs.scenes.value_at.Statement.{statement}
 use Rattle.table.proofs.scenes.value_at.Tie as tie
 
