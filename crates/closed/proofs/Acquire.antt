@@ -14,7 +14,7 @@ use Rattle.rules.specs.Configuration.{serving, evicting, workOk, atLeaf, leafOk
 use Rattle.rules.specs.Acquire.{acquireFor, purposeFor, probedFor}
 use Rattle.rules.specs.declared.State.{State}
 use Rattle.rules.specs.declared.Event.{Event}
-use Rattle.writes.proofs.Fields.{slotA}
+use Rattle.writes.proofs.Seen.{slotA}
 use Rattle.writes.proofs.Cases.{by-purpose}
 use Rattle.writes.proofs.Effects.{SendAcquireWrites, TakeAcquireWrites}
 use Rattle.writes.proofs.Needs.{SendAcquireNeeds, TakeAcquireNeeds}

@@ -20,7 +20,7 @@ use Rattle.rules.specs.Grant.{grantFits, confirmed, mayGrant, grantFor, grantVa
 use Rattle.rules.specs.declared.State.{State}
 use Rattle.rules.specs.declared.Node.{Node}
 use Rattle.rules.specs.declared.Event.{Event}
-use Rattle.writes.proofs.Fields.{purpose, requester, slotD, down}
+use Rattle.writes.proofs.Seen.{purpose, requester, slotD, down}
 use Rattle.writes.proofs.Cases.{by-purpose, by-down}
 use Rattle.writes.proofs.Effects.{TakeGrantWrites, SendGrantAckWrites, SendGrantWrites, TakeGrantAckWrites}
 use Rattle.writes.proofs.Needs.{TakeGrantNeeds, SendGrantAckNeeds, SendGrantNeeds}

@@ -18,7 +18,7 @@ use Rattle.rules.specs.Settle.{nextPhase}
 use Rattle.rules.specs.Local.{held}
 use Rattle.rules.specs.declared.State.{State}
 use Rattle.rules.specs.declared.Event.{Event}
-use Rattle.writes.proofs.Fields.{phase, requester}
+use Rattle.writes.proofs.Seen.{phase, requester}
 use Rattle.writes.proofs.Writes.{Writes}
 use Rattle.writes.proofs.Effects.{LoadWrites, StoreWrites, LoadMissWrites, StoreMissWrites, EvictWrites}
 use Rattle.writes.proofs.Needs.{StoreNeeds, LoadMissNeeds, StoreMissNeeds, EvictNeeds}

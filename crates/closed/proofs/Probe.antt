@@ -19,7 +19,7 @@ use Rattle.rules.specs.declared.State.{State}
 use Rattle.rules.specs.declared.Node.{Node}
 use Rattle.rules.specs.declared.Link.{Link}
 use Rattle.rules.specs.declared.Event.{Event}
-use Rattle.writes.proofs.Fields.{dirty, cap, kept, slotB}
+use Rattle.writes.proofs.Seen.{dirty, cap, kept, slotB}
 use Rattle.writes.proofs.Cases.{by-purpose, by-cap}
 use Rattle.writes.proofs.Effects.{SendProbeWrites, TakeProbeWrites, SendProbeAckWrites, TakeProbeAckWrites}
 use Rattle.writes.proofs.Needs.{TakeProbeNeeds, SendProbeAckNeeds, TakeProbeAckNeeds, all-none, no-entry}

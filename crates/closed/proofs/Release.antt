@@ -17,7 +17,7 @@ use Rattle.rules.specs.Probe.{carried}
 use Rattle.rules.specs.Release.{releaseFor}
 use Rattle.rules.specs.declared.State.{State}
 use Rattle.rules.specs.declared.Event.{Event}
-use Rattle.writes.proofs.Fields.{dirty, noted}
+use Rattle.writes.proofs.Seen.{dirty, noted}
 use Rattle.writes.proofs.Effects.{SendReleaseWrites, TakeReleaseWrites, SendReleaseAckWrites, TakeReleaseAckWrites}
 use Rattle.writes.proofs.Needs.{SendReleaseNeeds, TakeReleaseNeeds}
 use Rattle.closed.proofs.Subjects.{Own, with-main, slot-c, slot-d}

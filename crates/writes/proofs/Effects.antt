@@ -22,7 +22,7 @@ use Rattle.rules.specs.Step.{doneBy}
 use Rattle.rules.specs.declared.State.{State}
 use Rattle.rules.specs.declared.Node.{Node}
 use Rattle.rules.specs.declared.Event.{Event}
-use Rattle.writes.proofs.Fields.{dirty, purpose, probing, cap, slotA, slotB, slotD, down, kept}
+use Rattle.writes.proofs.Seen.{dirty, purpose, probing, cap, slotA, slotB, slotD, down, kept}
 use Rattle.writes.proofs.Writes.{Sized, Writes, with-at, settledBy, effect-writes, with-same}
 
 -- the configuration after the kind n, which acts on the link of j

@@ -1,5 +1,5 @@
 pub mod Cases
-pub mod Fields
+pub mod Seen
 pub mod Put
 pub mod Writes
 pub mod Effects

@@ -21,7 +21,7 @@ use Rattle.rules.specs.Grant.{grantFits, takeGrantNeeds, sendGrantAckNeeds, may
 use Rattle.rules.specs.Release.{awaits, sendReleaseNeeds, takeReleaseNeeds, sendReleaseAckNeeds, takeReleaseAckNeeds}
 use Rattle.rules.specs.declared.State.{State}
 use Rattle.rules.specs.declared.Node.{Node}
-use Rattle.writes.proofs.Fields.{phase, purpose, requester, probing, cap, noted, slotA, slotB, slotC, slotD, slotE, kept}
+use Rattle.writes.proofs.Seen.{phase, purpose, requester, probing, cap, noted, slotA, slotB, slotC, slotD, slotE, kept}
 
 is : (a b : ℕ) → eqb a b ≡ true → a ≡ b
 is a b = eqb-true a b

@@ -15,7 +15,7 @@ use Rattle.rules.specs.Messages.{installs, isGrant, carriesDown}
 use Rattle.rules.specs.Probe.{servesProbes}
 use Rattle.rules.specs.Release.{awaits}
 use Rattle.rules.specs.declared.State.{State}
-use Rattle.writes.proofs.Fields.{dirty, phase, probing, requester, slotC, kept, slotD}
+use Rattle.writes.proofs.Seen.{dirty, phase, probing, requester, slotC, kept, slotD}
 use Rattle.writes.proofs.Needs.{Child}
 use Rattle.writes.proofs.Accepted.{Tree, tree}
 use Rattle.writes.proofs.Views.{viewAt}

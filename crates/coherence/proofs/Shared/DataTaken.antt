@@ -20,7 +20,7 @@ use Rattle.rules.specs.Probe.{dataFits}
 use Rattle.rules.specs.declared.State.{State}
 use Rattle.rules.specs.declared.Node.{Node}
 use Rattle.rules.specs.declared.Link.{Link}
-use Rattle.writes.proofs.Fields.{dirty, phase, purpose, requester, probing, noted, slotB, slotC, up, slotD}
+use Rattle.writes.proofs.Seen.{dirty, phase, purpose, requester, probing, noted, slotB, slotC, up, slotD}
 use Rattle.writes.proofs.Writes.{Writes, with-at, noMembers, settledBy}
 use Rattle.writes.proofs.Needs.{Child}
 use Rattle.writes.proofs.Views.{ownView, childView}

@@ -15,7 +15,7 @@ use Rattle.rules.specs.Release.{awaits}
 use Rattle.rules.specs.declared.State.{State}
 use Rattle.rules.specs.declared.Node.{Node}
 use Rattle.rules.specs.declared.Link.{Link}
-use Rattle.writes.proofs.Fields.{dirty, phase, requester, probing, noted}
+use Rattle.writes.proofs.Seen.{dirty, phase, requester, probing, noted}
 use Rattle.writes.proofs.Needs.{Child}
 use Rattle.writes.proofs.Views.{ownView, childView}
 use Rattle.coherence.proofs.Invariant.Clauses.{owes, grantToken, probeToken, releaseToken, LinkOk, NodeOk, Inv}

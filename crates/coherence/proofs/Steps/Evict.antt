@@ -11,7 +11,7 @@ use Rattle.rules.specs.Local.{held}
 use Rattle.rules.specs.declared.State.{State}
 use Rattle.rules.specs.declared.Node.{Node}
 use Rattle.rules.specs.declared.Event.{Event}
-use Rattle.writes.proofs.Fields.{phase, requester}
+use Rattle.writes.proofs.Seen.{phase, requester}
 use Rattle.writes.proofs.Writes.{settledBy}
 use Rattle.writes.proofs.Effects.{EvictWrites}
 use Rattle.writes.proofs.Needs.{EvictNeeds}

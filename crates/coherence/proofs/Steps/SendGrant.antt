@@ -21,7 +21,7 @@ use Rattle.rules.specs.Grant.{mayGrant, grantFor, grantValue}
 use Rattle.rules.specs.Release.{awaits}
 use Rattle.rules.specs.declared.State.{State}
 use Rattle.rules.specs.declared.Event.{Event}
-use Rattle.writes.proofs.Fields.{phase, purpose, requester, slotC, kept, slotD, slotE, noted}
+use Rattle.writes.proofs.Seen.{phase, purpose, requester, slotC, kept, slotD, slotE, noted}
 use Rattle.writes.proofs.Cases.{by-purpose}
 use Rattle.writes.proofs.Writes.{with-at}
 use Rattle.writes.proofs.Effects.{SendGrantWrites}

@@ -17,7 +17,7 @@ use Rattle.rules.specs.Release.{awaits}
 use Rattle.rules.specs.declared.State.{State}
 use Rattle.rules.specs.declared.Node.{Node}
 use Rattle.rules.specs.declared.Event.{Event}
-use Rattle.writes.proofs.Fields.{phase, requester, probing, slotD, slotE}
+use Rattle.writes.proofs.Seen.{phase, requester, probing, slotD, slotE}
 use Rattle.writes.proofs.Effects.{SendGrantAckWrites}
 use Rattle.writes.proofs.Needs.{SendGrantAckNeeds}
 use Rattle.writes.proofs.Views.{view}

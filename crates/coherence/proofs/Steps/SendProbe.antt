@@ -14,7 +14,7 @@ use Rattle.rules.specs.Configuration.{configurationOk}
 use Rattle.rules.specs.Probe.{capFor}
 use Rattle.rules.specs.declared.State.{State}
 use Rattle.rules.specs.declared.Event.{Event}
-use Rattle.writes.proofs.Fields.{phase, purpose, probing, cap, slotB, slotC}
+use Rattle.writes.proofs.Seen.{phase, purpose, probing, cap, slotB, slotC}
 use Rattle.writes.proofs.Cases.{by-purpose}
 use Rattle.writes.proofs.Writes.{with-at}
 use Rattle.writes.proofs.Effects.{SendProbeWrites}

@@ -17,7 +17,7 @@ use Rattle.rules.specs.Probe.{capMet, fallen, carried, probeAckFor}
 use Rattle.rules.specs.declared.State.{State}
 use Rattle.rules.specs.declared.Link.{Link}
 use Rattle.rules.specs.declared.Event.{Event}
-use Rattle.writes.proofs.Fields.{dirty, cap, slotB, slotC, kept, slotD}
+use Rattle.writes.proofs.Seen.{dirty, cap, slotB, slotC, kept, slotD}
 use Rattle.writes.proofs.Cases.{by-cap}
 use Rattle.writes.proofs.Effects.{acked, SendProbeAckWrites}
 use Rattle.writes.proofs.Needs.{Child, SendProbeAckNeeds, all-none, no-entry}

@@ -19,7 +19,7 @@ use Rattle.rules.specs.Release.{releaseFor, awaits}
 use Rattle.rules.specs.declared.State.{State}
 use Rattle.rules.specs.declared.Link.{Link}
 use Rattle.rules.specs.declared.Event.{Event}
-use Rattle.writes.proofs.Fields.{dirty, noted, slotC, slotD, kept}
+use Rattle.writes.proofs.Seen.{dirty, noted, slotC, slotD, kept}
 use Rattle.writes.proofs.Effects.{left, SendReleaseWrites}
 use Rattle.writes.proofs.Needs.{Child, SendReleaseNeeds}
 use Rattle.writes.proofs.Views.{view, ownView, childView}

@@ -12,7 +12,7 @@ use Rattle.rules.specs.Scenes.{filledD}
 use Rattle.rules.specs.Configuration.{configurationOk}
 use Rattle.rules.specs.declared.State.{State}
 use Rattle.rules.specs.declared.Event.{Event}
-use Rattle.writes.proofs.Fields.{phase, noted, slotC, slotD}
+use Rattle.writes.proofs.Seen.{phase, noted, slotC, slotD}
 use Rattle.writes.proofs.Effects.{SendReleaseAckWrites}
 use Rattle.writes.proofs.Needs.{Child, SendReleaseAckNeeds}
 use Rattle.writes.proofs.Views.{viewAt, childView}

@@ -12,7 +12,7 @@ use Rattle.rules.specs.Release.{awaits}
 use Rattle.rules.specs.declared.State.{State}
 use Rattle.rules.specs.declared.Node.{Node}
 use Rattle.rules.specs.declared.Event.{Event}
-use Rattle.writes.proofs.Fields.{phase, requester, slotA}
+use Rattle.writes.proofs.Seen.{phase, requester, slotA}
 use Rattle.writes.proofs.Writes.{settledBy}
 use Rattle.writes.proofs.Effects.{TakeAcquireWrites}
 use Rattle.writes.proofs.Needs.{Child, TakeAcquireNeeds}

@@ -19,7 +19,7 @@ use Rattle.rules.specs.Release.{awaits}
 use Rattle.rules.specs.declared.State.{State}
 use Rattle.rules.specs.declared.Node.{Node}
 use Rattle.rules.specs.declared.Event.{Event}
-use Rattle.writes.proofs.Fields.{phase, requester, noted, slotB, slotC, slotD, slotE, kept, down, probing}
+use Rattle.writes.proofs.Seen.{phase, requester, noted, slotB, slotC, slotD, slotE, kept, down, probing}
 use Rattle.writes.proofs.Cases.{by-purpose}
 use Rattle.writes.proofs.Effects.{TakeGrantWrites}
 use Rattle.writes.proofs.Needs.{Child, TakeGrantNeeds}

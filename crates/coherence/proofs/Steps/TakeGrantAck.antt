@@ -14,7 +14,7 @@ use Rattle.rules.specs.Probe.{servesProbes}
 use Rattle.rules.specs.Release.{awaits}
 use Rattle.rules.specs.declared.State.{State}
 use Rattle.rules.specs.declared.Event.{Event}
-use Rattle.writes.proofs.Fields.{phase, requester, slotD}
+use Rattle.writes.proofs.Seen.{phase, requester, slotD}
 use Rattle.writes.proofs.Effects.{TakeGrantAckWrites}
 use Rattle.writes.proofs.Needs.{TakeGrantAckNeeds}
 use Rattle.writes.proofs.Views.{viewAt}

@@ -10,7 +10,7 @@ use Rattle.rules.specs.Messages.{isProbeAck}
 use Rattle.rules.specs.Configuration.{configurationOk}
 use Rattle.rules.specs.declared.State.{State}
 use Rattle.rules.specs.declared.Event.{Event}
-use Rattle.writes.proofs.Fields.{phase, probing, slotC}
+use Rattle.writes.proofs.Seen.{phase, probing, slotC}
 use Rattle.writes.proofs.Effects.{TakeProbeWrites}
 use Rattle.writes.proofs.Needs.{TakeProbeNeeds}
 use Rattle.writes.proofs.Views.{view}

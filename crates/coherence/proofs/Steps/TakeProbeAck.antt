@@ -14,7 +14,7 @@ use Rattle.rules.specs.Messages.{isProbeAck, isGrant}
 use Rattle.rules.specs.Configuration.{configurationOk}
 use Rattle.rules.specs.declared.State.{State}
 use Rattle.rules.specs.declared.Event.{Event}
-use Rattle.writes.proofs.Fields.{phase, probing, noted, slotB, kept, slotD}
+use Rattle.writes.proofs.Seen.{phase, probing, noted, slotB, kept, slotD}
 use Rattle.writes.proofs.Writes.{with-at}
 use Rattle.writes.proofs.Effects.{TakeProbeAckWrites}
 use Rattle.writes.proofs.Needs.{Child, TakeProbeAckNeeds}

@@ -16,7 +16,7 @@ use Rattle.rules.specs.Configuration.{configurationOk}
 use Rattle.rules.specs.declared.State.{State}
 use Rattle.rules.specs.declared.Node.{Node}
 use Rattle.rules.specs.declared.Event.{Event}
-use Rattle.writes.proofs.Fields.{phase, probing, noted, slotB, slotD}
+use Rattle.writes.proofs.Seen.{phase, probing, noted, slotB, slotD}
 use Rattle.writes.proofs.Writes.{with-at}
 use Rattle.writes.proofs.Effects.{TakeReleaseWrites}
 use Rattle.writes.proofs.Needs.{Child, TakeReleaseNeeds}

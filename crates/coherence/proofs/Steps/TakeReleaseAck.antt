@@ -14,7 +14,7 @@ use Rattle.rules.specs.Probe.{servesProbes}
 use Rattle.rules.specs.Release.{awaits}
 use Rattle.rules.specs.declared.State.{State}
 use Rattle.rules.specs.declared.Event.{Event}
-use Rattle.writes.proofs.Fields.{phase, noted, slotC}
+use Rattle.writes.proofs.Seen.{phase, noted, slotC}
 use Rattle.writes.proofs.Effects.{TakeReleaseAckWrites}
 use Rattle.writes.proofs.Needs.{TakeReleaseAckNeeds}
 use Rattle.writes.proofs.Views.{view, ownView}
