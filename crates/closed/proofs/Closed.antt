@@ -19,7 +19,7 @@ use Rattle.rules.specs.declared.Event.{Event}
 use Rattle.writes.proofs.Writes.{Sized}
 use Rattle.writes.proofs.Effects.{load-writes, store-writes, load-miss-writes, store-miss-writes, evict-writes, send-acquire-writes, take-acquire-writes, send-probe-writes, take-probe-writes, send-probe-ack-writes, take-probe-ack-writes, take-grant-writes, send-grant-ack-writes, send-grant-writes, take-grant-ack-writes, send-release-writes, take-release-writes, send-release-ack-writes, take-release-ack-writes}
 use Rattle.writes.proofs.Needs.{store-needs, load-miss-needs, store-miss-needs, evict-needs, send-acquire-needs, take-acquire-needs, take-probe-needs, send-probe-ack-needs, take-probe-ack-needs, take-grant-needs, send-grant-ack-needs, send-grant-needs, send-release-needs, take-release-needs}
-use Rattle.writes.proofs.Accepted.{linkOf, done, tree, known, Taken, step-taken, onward-taken, Every, end, each, by-kind}
+use Rattle.writes.proofs.Accepted.{linkOf, done, tree, known, Taken, step-taken, onward-taken, Every, end, _also_, by-kind}
 use Rattle.closed.proofs.Keeps.{Here, Kept, in-array, child-array}
 use Rattle.closed.proofs.Local.{load-keeps, store-keeps, load-miss-keeps, store-miss-keeps, evict-keeps}
 use Rattle.closed.proofs.Acquire.{send-acquire-keeps, take-acquire-keeps}
@@ -40,26 +40,26 @@ nonzero x h = eqb-false x 0 (not-true _ h)
 kinds-keep : Every Keeps kinds
 unfolding placeFits otherFits linkThere endOf numbered choose
 kinds-keep =
-    each (λ s e h z b p o j n. load-keeps s e _ h (load-writes s z e b))
-    (each (λ s e h z b p o j n. store-keeps s e _ h (store-writes s z e b) (store-needs s _ n))
-    (each (λ s e h z b p o j n. load-miss-keeps s e _ h (load-miss-writes s z e b) (load-miss-needs s _ n) p)
-    (each (λ s e h z b p o j n. store-miss-keeps s e _ h (store-miss-writes s z e b) (store-miss-needs s _ n) p)
-    (each (λ s e h z b p o j n. evict-keeps s e _ h (evict-writes s z e b) (evict-needs s _ n))
-    (each (λ s e h z b p o j n. send-acquire-keeps s e _ h (send-acquire-writes s z e b) (send-acquire-needs s _ n) (nonzero _ p))
-    (each (λ s e h z b p o j n. take-acquire-keeps s e _ h (take-acquire-writes s z e b _ (child-array h _ o)) (take-acquire-needs s _ _ n) o)
-    (each (λ s e h z b p o j n. send-probe-keeps s e _ h _ o (send-probe-writes s z e b _ (child-array h _ o)))
-    (each (λ s e h z b p o j n. take-probe-keeps s e _ h (take-probe-writes s z e b) (take-probe-needs s _ n) (nonzero _ p))
-    (each (λ s e h z b p o j n. send-probe-ack-keeps s e _ h (send-probe-ack-writes s z e b) (send-probe-ack-needs s _ n) (nonzero _ p))
-    (each (λ s e h z b p o j n. take-probe-ack-keeps s e _ h _ o (take-probe-ack-writes s z e b _ (child-array h _ o)) (take-probe-ack-needs s _ _ n))
-    (each (λ s e h z b p o j n. take-grant-keeps s e _ h (take-grant-writes s z e b) (take-grant-needs s _ n) (nonzero _ p))
-    (each (λ s e h z b p o j n. send-grant-ack-keeps s e _ h (send-grant-ack-writes s z e b) (send-grant-ack-needs s _ n) (nonzero _ p))
-    (each (λ s e h z b p o j n. send-grant-keeps s e _ h j (send-grant-writes s z e b _ (child-array h _ j)) (send-grant-needs s _ _ j n))
-    (each (λ s e h z b p o j n. take-grant-ack-keeps s e _ h j (take-grant-ack-writes s z e b _ (child-array h _ j)))
-    (each (λ s e h z b p o j n. send-release-keeps s e _ h (send-release-writes s z e b) (send-release-needs s _ n) (nonzero _ p))
-    (each (λ s e h z b p o j n. take-release-keeps s e _ h (take-release-writes s z e b _ (child-array h _ o)) (take-release-needs s _ _ n) o)
-    (each (λ s e h z b p o j n. send-release-ack-keeps s e _ h (send-release-ack-writes s z e b _ (child-array h _ j)) j)
-    (each (λ s e h z b p o j n. take-release-ack-keeps s e _ h (take-release-ack-writes s z e b) (nonzero _ p))
-    end))))))))))))))))))
+    (λ s e h z b p o j n. load-keeps s e _ h (load-writes s z e b))
+    also (λ s e h z b p o j n. store-keeps s e _ h (store-writes s z e b) (store-needs s _ n))
+    also (λ s e h z b p o j n. load-miss-keeps s e _ h (load-miss-writes s z e b) (load-miss-needs s _ n) p)
+    also (λ s e h z b p o j n. store-miss-keeps s e _ h (store-miss-writes s z e b) (store-miss-needs s _ n) p)
+    also (λ s e h z b p o j n. evict-keeps s e _ h (evict-writes s z e b) (evict-needs s _ n))
+    also (λ s e h z b p o j n. send-acquire-keeps s e _ h (send-acquire-writes s z e b) (send-acquire-needs s _ n) (nonzero _ p))
+    also (λ s e h z b p o j n. take-acquire-keeps s e _ h (take-acquire-writes s z e b _ (child-array h _ o)) (take-acquire-needs s _ _ n) o)
+    also (λ s e h z b p o j n. send-probe-keeps s e _ h _ o (send-probe-writes s z e b _ (child-array h _ o)))
+    also (λ s e h z b p o j n. take-probe-keeps s e _ h (take-probe-writes s z e b) (take-probe-needs s _ n) (nonzero _ p))
+    also (λ s e h z b p o j n. send-probe-ack-keeps s e _ h (send-probe-ack-writes s z e b) (send-probe-ack-needs s _ n) (nonzero _ p))
+    also (λ s e h z b p o j n. take-probe-ack-keeps s e _ h _ o (take-probe-ack-writes s z e b _ (child-array h _ o)) (take-probe-ack-needs s _ _ n))
+    also (λ s e h z b p o j n. take-grant-keeps s e _ h (take-grant-writes s z e b) (take-grant-needs s _ n) (nonzero _ p))
+    also (λ s e h z b p o j n. send-grant-ack-keeps s e _ h (send-grant-ack-writes s z e b) (send-grant-ack-needs s _ n) (nonzero _ p))
+    also (λ s e h z b p o j n. send-grant-keeps s e _ h j (send-grant-writes s z e b _ (child-array h _ j)) (send-grant-needs s _ _ j n))
+    also (λ s e h z b p o j n. take-grant-ack-keeps s e _ h j (take-grant-ack-writes s z e b _ (child-array h _ j)))
+    also (λ s e h z b p o j n. send-release-keeps s e _ h (send-release-writes s z e b) (send-release-needs s _ n) (nonzero _ p))
+    also (λ s e h z b p o j n. take-release-keeps s e _ h (take-release-writes s z e b _ (child-array h _ o)) (take-release-needs s _ _ n) o)
+    also (λ s e h z b p o j n. send-release-ack-keeps s e _ h (send-release-ack-writes s z e b _ (child-array h _ j)) j)
+    also (λ s e h z b p o j n. take-release-ack-keeps s e _ h (take-release-ack-writes s z e b) (nonzero _ p))
+    also end
 
 -- an event that has passed numbers 3, 4 and 5, in a configuration on a good tree
 pub taken-keeps : {s : State} {e : Event} → Sized s → goodTree s ≡ true → configurationOk s ≡ true → Taken s e → Kept s (nextOf s e)

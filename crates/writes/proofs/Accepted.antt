@@ -141,15 +141,16 @@ abbrev pub done : Kind → State → Event → State
 done k s e = doneBy k s e (linkOf k s e) (sceneOf s (e .node) (linkOf k s e))
 
 -- a fact for each kind of a list
+infixr 5 _also_
 pub data Every (P : Kind → Type 0) : List Kind → Type 0 where
   end : Every P []
-  each : {k : Kind} {ks : List Kind} → P k → Every P ks → Every P (k ∷ ks)
+  _also_ : {k : Kind} {ks : List Kind} → P k → Every P ks → Every P (k ∷ ks)
 
 -- and so for the kind with a number of the list
 pub numbered-in : (P : Kind → Type 0) (ks : List Kind) → Every P ks → (n : ℕ) → listed ks n ≡ true → (n ≡ numbered ks n .number) × P (numbered ks n)
 unfolding listed numbered
 numbered-in P [] w n h = absurd (false≢true h)
-numbered-in P (k ∷ ks) (each p w) n h =
+numbered-in P (k ∷ ks) (p also w) n h =
     by-test (λ (r : Kind). (n ≡ r .number) × P r) (eqb n (k .number)) k (numbered ks n) (λ e. (eqb-true n (k .number) e, p)) λ e.
     numbered-in P ks w n (rw e at h)
 

@@ -1,6 +1,6 @@
 -- What each kind writes, kind by kind: the law of Writes at the rows of the table.
 use mathlib.Core.Path.{_≡_, refl}
-use mathlib.Core.Bool.{true, false}
+use mathlib.Core.Bool.{Bool, true, false}
 use Prim.Native.Nat.{ℕ, _<_}
 use Rattle.words.specs.Vocab.{choose}
 use Rattle.rules.specs.Codes.{nodeLimit, rightsN, none, ask, wait, await, confirm, leaving, toLoad, toStore, toEvict, noCap, noChild, empty, grantAck, releaseAck}
@@ -18,12 +18,13 @@ use Rattle.rules.specs.Probe.{capFor, sendProbeDoes, probedBy, takeProbeDoes, f
 use Rattle.rules.specs.Grant.{takeGrantDoes, confirmed, sendGrantAckDoes, grantFor, grantValue, sendGrantDoes, takeGrantAckDoes}
 use Rattle.rules.specs.Release.{releaseFor, sendReleaseDoes, takeReleaseDoes, sendReleaseAckDoes, takeReleaseAckDoes}
 use Rattle.rules.specs.Table.{numbered, kindOf}
-use Rattle.rules.specs.Step.{doneBy}
+use Rattle.rules.specs.Step.{settledNode, doneBy}
 use Rattle.rules.specs.declared.State.{State}
 use Rattle.rules.specs.declared.Node.{Node}
+use Rattle.rules.specs.declared.Scene.{Scene}
 use Rattle.rules.specs.declared.Event.{Event}
 use Rattle.writes.proofs.Seen.{dirty, purpose, probing, cap, slotA, slotB, slotD, down, kept}
-use Rattle.writes.proofs.Writes.{Sized, Writes, with-at, settledBy, effect-writes, with-same}
+use Rattle.writes.proofs.Writes.{Sized, Writes, with-at, noMembers, probedRow, settledBy, effect-writes, with-same}
 
 -- the configuration after the kind n, which acts on the link of j
 abbrev pub after : ℕ → State → Event → ℕ → State
@@ -138,118 +139,110 @@ module _ (s : State) (z : Sized s) (e : Event) (hx : e .node < nodeLimit) where
   same-pending : (k i : ℕ) → i < nodeLimit → with-at (pending s (e .node)) k (pending s (e .node) k) i ≡ pending s (e .node) i
   same-pending k i _ = with-same (pending s (e .node)) k i
 
+  -- the law at this node and on the link of j, for the kind with the number n
+  abbrev effect : ℕ → ℕ → Scene
+  effect n j = kindOf n .does (sceneOf s (e .node) j) e
+
+  writes-at : (j : ℕ) → j < nodeLimit → (n : ℕ) {es : ℕ → ℕ} {ws ps : ℕ → Bool}
+      → ((i : ℕ) → i < nodeLimit → with-at (entry s (e .node)) j (effect n j .entry) i ≡ es i)
+      → ((i : ℕ) → i < nodeLimit → probedRow (kindOf n .row .probes) s (e .node) j (sceneOf s (e .node) j) (e .other) (effect n j .«to_probe») i ≡ ws i)
+      → ((i : ℕ) → i < nodeLimit → with-at (pending s (e .node)) j (effect n j .pending) i ≡ ps i)
+      → Writes s (after n s e j) (e .node) j (effect n j .rights) (settledNode (kindOf n .row .settles) (noMembers ws ps) (effect n j .node) (effect n j .rights)) (effect n j .link) es ws ps
+  writes-at j hj n f g h = effect-writes s z (e .node) hx j hj (kindOf n) e (sceneOf s (e .node) j) (effect n j) f g h
+
   -- 1
   pub load-writes : LoadWrites s e (e .node) (after kindLoad s e (e .node))
   unfolding numbered choose settledPhase
-  load-writes =
-      effect-writes s z (e .node) hx (e .node) hx (kindOf kindLoad) e (sceneOf s (e .node) (e .node)) (kindOf kindLoad .does (sceneOf s (e .node) (e .node)) e) (same-entries (e .node)) (same-listed (e .node)) (same-pending (e .node))
+  load-writes = writes-at (e .node) hx kindLoad (same-entries (e .node)) (same-listed (e .node)) (same-pending (e .node))
 
   -- 2
   pub store-writes : StoreWrites s e (e .node) (after kindStore s e (e .node))
   unfolding numbered choose storeDoes settledPhase
-  store-writes =
-      effect-writes s z (e .node) hx (e .node) hx (kindOf kindStore) e (sceneOf s (e .node) (e .node)) (kindOf kindStore .does (sceneOf s (e .node) (e .node)) e) (same-entries (e .node)) (same-listed (e .node)) (same-pending (e .node))
+  store-writes = writes-at (e .node) hx kindStore (same-entries (e .node)) (same-listed (e .node)) (same-pending (e .node))
 
   -- 3
   pub load-miss-writes : LoadMissWrites s e (e .node) (after kindLoadMiss s e (e .node))
   unfolding numbered choose loadMissDoes settledPhase
-  load-miss-writes =
-      effect-writes s z (e .node) hx (e .node) hx (kindOf kindLoadMiss) e (sceneOf s (e .node) (e .node)) (kindOf kindLoadMiss .does (sceneOf s (e .node) (e .node)) e) (same-entries (e .node)) (same-listed (e .node)) (same-pending (e .node))
+  load-miss-writes = writes-at (e .node) hx kindLoadMiss (same-entries (e .node)) (same-listed (e .node)) (same-pending (e .node))
 
   -- 4
   pub store-miss-writes : StoreMissWrites s e (e .node) (after kindStoreMiss s e (e .node))
   unfolding numbered choose storeMissDoes settledPhase
-  store-miss-writes =
-      effect-writes s z (e .node) hx (e .node) hx (kindOf kindStoreMiss) e (sceneOf s (e .node) (e .node)) (kindOf kindStoreMiss .does (sceneOf s (e .node) (e .node)) e) (same-entries (e .node)) (same-listed (e .node)) (same-pending (e .node))
+  store-miss-writes = writes-at (e .node) hx kindStoreMiss (same-entries (e .node)) (same-listed (e .node)) (same-pending (e .node))
 
   -- 5
   pub evict-writes : EvictWrites s e (e .node) (after kindEvict s e (e .node))
   unfolding numbered choose evictDoes settledPhase
-  evict-writes =
-      effect-writes s z (e .node) hx (e .node) hx (kindOf kindEvict) e (sceneOf s (e .node) (e .node)) (kindOf kindEvict .does (sceneOf s (e .node) (e .node)) e) (same-entries (e .node)) (λ i _. refl) (same-pending (e .node))
+  evict-writes = writes-at (e .node) hx kindEvict (same-entries (e .node)) (λ i _. refl) (same-pending (e .node))
 
   -- 6
   pub send-acquire-writes : SendAcquireWrites s e (e .node) (after kindSendAcquire s e (e .node))
   unfolding numbered choose sendAcquireDoes settledPhase
-  send-acquire-writes =
-      effect-writes s z (e .node) hx (e .node) hx (kindOf kindSendAcquire) e (sceneOf s (e .node) (e .node)) (kindOf kindSendAcquire .does (sceneOf s (e .node) (e .node)) e) (same-entries (e .node)) (same-listed (e .node)) (same-pending (e .node))
+  send-acquire-writes = writes-at (e .node) hx kindSendAcquire (same-entries (e .node)) (same-listed (e .node)) (same-pending (e .node))
 
   -- 9
   pub take-probe-writes : TakeProbeWrites s e (e .node) (after kindTakeProbe s e (e .node))
   unfolding numbered choose takeProbeDoes settledPhase
-  take-probe-writes =
-      effect-writes s z (e .node) hx (e .node) hx (kindOf kindTakeProbe) e (sceneOf s (e .node) (e .node)) (kindOf kindTakeProbe .does (sceneOf s (e .node) (e .node)) e) (same-entries (e .node)) (λ i _. refl) (same-pending (e .node))
+  take-probe-writes = writes-at (e .node) hx kindTakeProbe (same-entries (e .node)) (λ i _. refl) (same-pending (e .node))
 
   -- 10
   pub send-probe-ack-writes : SendProbeAckWrites s e (e .node) (after kindSendProbeAck s e (e .node))
   unfolding numbered choose sendProbeAckDoes settledPhase
-  send-probe-ack-writes =
-      effect-writes s z (e .node) hx (e .node) hx (kindOf kindSendProbeAck) e (sceneOf s (e .node) (e .node)) (kindOf kindSendProbeAck .does (sceneOf s (e .node) (e .node)) e) (same-entries (e .node)) (same-listed (e .node)) (same-pending (e .node))
+  send-probe-ack-writes = writes-at (e .node) hx kindSendProbeAck (same-entries (e .node)) (same-listed (e .node)) (same-pending (e .node))
 
   -- 12
   pub take-grant-writes : TakeGrantWrites s e (e .node) (after kindTakeGrant s e (e .node))
   unfolding numbered choose takeGrantDoes settledPhase
-  take-grant-writes =
-      effect-writes s z (e .node) hx (e .node) hx (kindOf kindTakeGrant) e (sceneOf s (e .node) (e .node)) (kindOf kindTakeGrant .does (sceneOf s (e .node) (e .node)) e) (same-entries (e .node)) (same-listed (e .node)) (same-pending (e .node))
+  take-grant-writes = writes-at (e .node) hx kindTakeGrant (same-entries (e .node)) (same-listed (e .node)) (same-pending (e .node))
 
   -- 13
   pub send-grant-ack-writes : SendGrantAckWrites s e (e .node) (after kindSendGrantAck s e (e .node))
   unfolding numbered choose sendGrantAckDoes settledPhase
-  send-grant-ack-writes =
-      effect-writes s z (e .node) hx (e .node) hx (kindOf kindSendGrantAck) e (sceneOf s (e .node) (e .node)) (kindOf kindSendGrantAck .does (sceneOf s (e .node) (e .node)) e) (same-entries (e .node)) (same-listed (e .node)) (same-pending (e .node))
+  send-grant-ack-writes = writes-at (e .node) hx kindSendGrantAck (same-entries (e .node)) (same-listed (e .node)) (same-pending (e .node))
 
   -- 16
   pub send-release-writes : SendReleaseWrites s e (e .node) (after kindSendRelease s e (e .node))
   unfolding numbered choose sendReleaseDoes settledPhase valueAt dirtyAt
-  send-release-writes =
-      effect-writes s z (e .node) hx (e .node) hx (kindOf kindSendRelease) e (sceneOf s (e .node) (e .node)) (kindOf kindSendRelease .does (sceneOf s (e .node) (e .node)) e) (same-entries (e .node)) (same-listed (e .node)) (same-pending (e .node))
+  send-release-writes = writes-at (e .node) hx kindSendRelease (same-entries (e .node)) (same-listed (e .node)) (same-pending (e .node))
 
   -- 19
   pub take-release-ack-writes : TakeReleaseAckWrites s e (e .node) (after kindTakeReleaseAck s e (e .node))
   unfolding numbered choose takeReleaseAckDoes settledPhase
-  take-release-ack-writes =
-      effect-writes s z (e .node) hx (e .node) hx (kindOf kindTakeReleaseAck) e (sceneOf s (e .node) (e .node)) (kindOf kindTakeReleaseAck .does (sceneOf s (e .node) (e .node)) e) (same-entries (e .node)) (same-listed (e .node)) (same-pending (e .node))
+  take-release-ack-writes = writes-at (e .node) hx kindTakeReleaseAck (same-entries (e .node)) (same-listed (e .node)) (same-pending (e .node))
 
   -- on the link of a child
   module _ (k : ℕ) (hk : k < nodeLimit) where
     -- 7
     pub take-acquire-writes : TakeAcquireWrites s e (e .node) k (after kindTakeAcquire s e k)
     unfolding numbered choose takeAcquireDoes settledPhase
-    take-acquire-writes =
-        effect-writes s z (e .node) hx k hk (kindOf kindTakeAcquire) e (sceneOf s (e .node) k) (kindOf kindTakeAcquire .does (sceneOf s (e .node) k) e) (same-entries k) (λ i _. refl) (same-pending k)
+    take-acquire-writes = writes-at k hk kindTakeAcquire (same-entries k) (λ i _. refl) (same-pending k)
 
     -- 8
     pub send-probe-writes : SendProbeWrites s e (e .node) k (after kindSendProbe s e k)
     unfolding numbered choose sendProbeDoes settledPhase
-    send-probe-writes =
-        effect-writes s z (e .node) hx k hk (kindOf kindSendProbe) e (sceneOf s (e .node) k) (kindOf kindSendProbe .does (sceneOf s (e .node) k) e) (same-entries k) (λ i _. refl) (λ i _. refl)
+    send-probe-writes = writes-at k hk kindSendProbe (same-entries k) (λ i _. refl) (λ i _. refl)
 
     -- 11
     pub take-probe-ack-writes : TakeProbeAckWrites s e (e .node) k (after kindTakeProbeAck s e k)
     unfolding numbered choose takeProbeAckDoes settledPhase
-    take-probe-ack-writes =
-        effect-writes s z (e .node) hx k hk (kindOf kindTakeProbeAck) e (sceneOf s (e .node) k) (kindOf kindTakeProbeAck .does (sceneOf s (e .node) k) e) (λ i _. refl) (same-listed k) (λ i _. refl)
+    take-probe-ack-writes = writes-at k hk kindTakeProbeAck (λ i _. refl) (same-listed k) (λ i _. refl)
 
     -- 14
     pub send-grant-writes : SendGrantWrites s e (e .node) k (after kindSendGrant s e k)
     unfolding numbered choose sendGrantDoes settledPhase
-    send-grant-writes =
-        effect-writes s z (e .node) hx k hk (kindOf kindSendGrant) e (sceneOf s (e .node) k) (kindOf kindSendGrant .does (sceneOf s (e .node) k) e) (λ i _. refl) (same-listed k) (same-pending k)
+    send-grant-writes = writes-at k hk kindSendGrant (λ i _. refl) (same-listed k) (same-pending k)
 
     -- 15
     pub take-grant-ack-writes : TakeGrantAckWrites s e (e .node) k (after kindTakeGrantAck s e k)
     unfolding numbered choose takeGrantAckDoes settledPhase
-    take-grant-ack-writes =
-        effect-writes s z (e .node) hx k hk (kindOf kindTakeGrantAck) e (sceneOf s (e .node) k) (kindOf kindTakeGrantAck .does (sceneOf s (e .node) k) e) (same-entries k) (same-listed k) (same-pending k)
+    take-grant-ack-writes = writes-at k hk kindTakeGrantAck (same-entries k) (same-listed k) (same-pending k)
 
     -- 17
     pub take-release-writes : TakeReleaseWrites s e (e .node) k (after kindTakeRelease s e k)
     unfolding numbered choose takeReleaseDoes settledPhase
-    take-release-writes =
-        effect-writes s z (e .node) hx k hk (kindOf kindTakeRelease) e (sceneOf s (e .node) k) (kindOf kindTakeRelease .does (sceneOf s (e .node) k) e) (λ i _. refl) (λ i _. refl) (same-pending k)
+    take-release-writes = writes-at k hk kindTakeRelease (λ i _. refl) (λ i _. refl) (same-pending k)
 
     -- 18
     pub send-release-ack-writes : SendReleaseAckWrites s e (e .node) k (after kindSendReleaseAck s e k)
     unfolding numbered choose sendReleaseAckDoes settledPhase
-    send-release-ack-writes =
-        effect-writes s z (e .node) hx k hk (kindOf kindSendReleaseAck) e (sceneOf s (e .node) k) (kindOf kindSendReleaseAck .does (sceneOf s (e .node) k) e) (same-entries k) (same-listed k) (same-pending k)
+    send-release-ack-writes = writes-at k hk kindSendReleaseAck (same-entries k) (same-listed k) (same-pending k)

@@ -26,7 +26,7 @@ use Rattle.rules.specs.declared.Answer.{Answer}
 use Rattle.writes.proofs.Writes.{Sized}
 use Rattle.writes.proofs.Effects.{load-writes, store-writes, load-miss-writes, store-miss-writes, evict-writes, send-acquire-writes, take-acquire-writes, send-probe-writes, take-probe-writes, send-probe-ack-writes, take-probe-ack-writes, take-grant-writes, send-grant-ack-writes, send-grant-writes, take-grant-ack-writes, send-release-writes, take-release-writes, send-release-ack-writes, take-release-ack-writes}
 use Rattle.writes.proofs.Needs.{child, load-needs, store-needs, load-miss-needs, store-miss-needs, evict-needs, send-acquire-needs, take-acquire-needs, send-probe-needs, take-probe-needs, send-probe-ack-needs, take-probe-ack-needs, take-grant-needs, send-grant-ack-needs, send-grant-needs, take-grant-ack-needs, send-release-needs, take-release-needs, send-release-ack-needs, take-release-ack-needs}
-use Rattle.writes.proofs.Accepted.{linkOf, done, known, step-taken, Every, end, each, by-kind}
+use Rattle.writes.proofs.Accepted.{linkOf, done, known, step-taken, Every, end, _also_, by-kind}
 use Rattle.closed.proofs.Closed.{closed}
 use Rattle.coherence.specs.Reached.{Reached, start, next, lastOf}
 use Rattle.coherence.specs.Coherent.{Coherent}
@@ -88,26 +88,26 @@ module _ (s : State) (v : ℕ) (e : Event) (i : Inv s v) (inside : e .node < s .
   kinds-keep : Every Keeps kinds
   unfolding placeFits otherFits linkThere endOf numbered choose
   kinds-keep =
-      each (λ q p o j n c. other _ q refl (load-keeps e i inside _ (load-writes s z e bound) c))
-      (each (λ q p o j n c. stores q (store-keeps i e inside (store-needs s _ n) _ (store-writes s z e bound) c))
-      (each (λ q p o j n c. other _ q refl (miss-keeps i inside (load-miss-needs s _ n .quiet) _ toLoad (load-miss-writes s z e bound) c))
-      (each (λ q p o j n c. other _ q refl (miss-keeps i inside (store-miss-needs s _ n .quiet) _ toStore (store-miss-writes s z e bound) c))
-      (each (λ q p o j n c. other _ q refl (evict-keeps i e inside (evict-needs s _ n) _ (evict-writes s z e bound) c))
-      (each (λ q p o j n c. other _ q refl (send-acquire-keeps i e inside (send-acquire-needs s _ n) _ (send-acquire-writes s z e bound) c))
-      (each (λ q p o j n c. other _ q refl (take-acquire-keeps i e inside (child s _ _ o) (take-acquire-needs s _ _ n) _ (take-acquire-writes s z e bound _ (child-bound _ o)) c))
-      (each (λ q p o j n c. other _ q refl (send-probe-keeps i e inside (child s _ _ o) (send-probe-needs s _ _ n) _ (send-probe-writes s z e bound _ (child-bound _ o)) c))
-      (each (λ q p o j n c. other _ q refl (take-probe-keeps i e inside (below-root _ p) (take-probe-needs s _ n) _ (take-probe-writes s z e bound) c))
-      (each (λ q p o j n c. other _ q refl (send-probe-ack-keeps i e inside (below-root _ p) (send-probe-ack-needs s _ n) _ (send-probe-ack-writes s z e bound) c))
-      (each (λ q p o j n c. other _ q refl (take-probe-ack-keeps i e inside (child s _ _ o) (take-probe-ack-needs s _ _ n) _ (take-probe-ack-writes s z e bound _ (child-bound _ o)) c))
-      (each (λ q p o j n c. other _ q refl (take-grant-keeps i e inside (below-root _ p) (take-grant-needs s _ n) _ (take-grant-writes s z e bound) c))
-      (each (λ q p o j n c. other _ q refl (send-grant-ack-keeps i e inside (below-root _ p) (send-grant-ack-needs s _ n) _ (send-grant-ack-writes s z e bound) c))
-      (each (λ q p o j n c. other _ q refl (send-grant-keeps i e inside (send-grant-needs s _ _ j n) _ (send-grant-writes s z e bound _ (child-bound _ j)) c))
-      (each (λ q p o j n c. other _ q refl (take-grant-ack-keeps i e inside (take-grant-ack-needs s _ j n) _ (take-grant-ack-writes s z e bound _ (child-bound _ j)) c))
-      (each (λ q p o j n c. other _ q refl (send-release-keeps i e inside (below-root _ p) (send-release-needs s _ n) _ (send-release-writes s z e bound) c))
-      (each (λ q p o j n c. other _ q refl (take-release-keeps i e inside (child s _ _ o) (take-release-needs s _ _ n) _ (take-release-writes s z e bound _ (child-bound _ o)) c))
-      (each (λ q p o j n c. other _ q refl (send-release-ack-keeps i e inside (send-release-ack-needs s _ j n) _ (send-release-ack-writes s z e bound _ (child-bound _ j)) c))
-      (each (λ q p o j n c. other _ q refl (take-release-ack-keeps i e inside (below-root _ p) (take-release-ack-needs s _ n) _ (take-release-ack-writes s z e bound) c))
-      end))))))))))))))))))
+      (λ q p o j n c. other _ q refl (load-keeps e i inside _ (load-writes s z e bound) c))
+      also (λ q p o j n c. stores q (store-keeps i e inside (store-needs s _ n) _ (store-writes s z e bound) c))
+      also (λ q p o j n c. other _ q refl (miss-keeps i inside (load-miss-needs s _ n .quiet) _ toLoad (load-miss-writes s z e bound) c))
+      also (λ q p o j n c. other _ q refl (miss-keeps i inside (store-miss-needs s _ n .quiet) _ toStore (store-miss-writes s z e bound) c))
+      also (λ q p o j n c. other _ q refl (evict-keeps i e inside (evict-needs s _ n) _ (evict-writes s z e bound) c))
+      also (λ q p o j n c. other _ q refl (send-acquire-keeps i e inside (send-acquire-needs s _ n) _ (send-acquire-writes s z e bound) c))
+      also (λ q p o j n c. other _ q refl (take-acquire-keeps i e inside (child s _ _ o) (take-acquire-needs s _ _ n) _ (take-acquire-writes s z e bound _ (child-bound _ o)) c))
+      also (λ q p o j n c. other _ q refl (send-probe-keeps i e inside (child s _ _ o) (send-probe-needs s _ _ n) _ (send-probe-writes s z e bound _ (child-bound _ o)) c))
+      also (λ q p o j n c. other _ q refl (take-probe-keeps i e inside (below-root _ p) (take-probe-needs s _ n) _ (take-probe-writes s z e bound) c))
+      also (λ q p o j n c. other _ q refl (send-probe-ack-keeps i e inside (below-root _ p) (send-probe-ack-needs s _ n) _ (send-probe-ack-writes s z e bound) c))
+      also (λ q p o j n c. other _ q refl (take-probe-ack-keeps i e inside (child s _ _ o) (take-probe-ack-needs s _ _ n) _ (take-probe-ack-writes s z e bound _ (child-bound _ o)) c))
+      also (λ q p o j n c. other _ q refl (take-grant-keeps i e inside (below-root _ p) (take-grant-needs s _ n) _ (take-grant-writes s z e bound) c))
+      also (λ q p o j n c. other _ q refl (send-grant-ack-keeps i e inside (below-root _ p) (send-grant-ack-needs s _ n) _ (send-grant-ack-writes s z e bound) c))
+      also (λ q p o j n c. other _ q refl (send-grant-keeps i e inside (send-grant-needs s _ _ j n) _ (send-grant-writes s z e bound _ (child-bound _ j)) c))
+      also (λ q p o j n c. other _ q refl (take-grant-ack-keeps i e inside (take-grant-ack-needs s _ j n) _ (take-grant-ack-writes s z e bound _ (child-bound _ j)) c))
+      also (λ q p o j n c. other _ q refl (send-release-keeps i e inside (below-root _ p) (send-release-needs s _ n) _ (send-release-writes s z e bound) c))
+      also (λ q p o j n c. other _ q refl (take-release-keeps i e inside (child s _ _ o) (take-release-needs s _ _ n) _ (take-release-writes s z e bound _ (child-bound _ o)) c))
+      also (λ q p o j n c. other _ q refl (send-release-ack-keeps i e inside (send-release-ack-needs s _ j n) _ (send-release-ack-writes s z e bound _ (child-bound _ j)) c))
+      also (λ q p o j n c. other _ q refl (take-release-ack-keeps i e inside (below-root _ p) (take-release-ack-needs s _ n) _ (take-release-ack-writes s z e bound) c))
+      also end
 
 -- every accepted step keeps the invariant
 pub step-inv : (s : State) (v : ℕ) (e : Event) → Inv s v → stepOf s e .number ≡ accepts → Inv (stepOf s e .state) (lastOf e v)
