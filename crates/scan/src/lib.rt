@@ -70,11 +70,15 @@ fn evicting(phase: u8) -> bool
 fn work_ok(phase: u8, purpose: u8) -> bool
     ensures { λ r. ⌜ r ≡ workOk phase purpose ⌝ }
 {
+    // All three are there before the match: the compiler then picks one of them, and jumps nowhere.
+    let serves = serving(phase);
+    let evicts = evicting(phase);
+    let idle = phase == Phase::IDLE;
     match purpose {
-        Purpose::NONE => phase == Phase::IDLE,
-        Purpose::LOAD => serving(phase),
-        Purpose::STORE => serving(phase),
-        Purpose::EVICT => evicting(phase),
+        Purpose::NONE => idle,
+        Purpose::LOAD => serves,
+        Purpose::STORE => serves,
+        Purpose::EVICT => evicts,
         _ => false,
     }
 }

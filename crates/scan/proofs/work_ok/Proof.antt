@@ -10,7 +10,6 @@ work-ok-spec =
     tie.close (tie.spec
     (λ c κs. search needs)
     (λ c κs. search needs)
-    (λ c κs. search needs)
     (λ c. search cases)
     (λ c. search cases)
     (λ c. search cases)
