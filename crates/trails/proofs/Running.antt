@@ -1,15 +1,15 @@
 -- The loop over the events: what is left to write makes the whole text of what was written.
 use mathlib.Core.Path.{_≡_, refl, _∙_, sym, ap, subst, subst⁻¹}
-use mathlib.Core.Bool.{Bool, true, false}
+use mathlib.Core.Bool.{Bool, true, false, _&&_}
 use mathlib.Core.List.{List, _++_}
 use Prim.Native.Nat.{ℕ, zero, suc, _+_, _-_, _<_, _≤_}
 use native.Mathlib.Numerals.{add-one}
 use native.Mathlib.Omega.{arith}
-use borrow.Author.Tests.{le-leb, lt-leb, leb-true}
+use borrow.Author.Tests.{le-leb, lt-leb, leb-true, eq-eqb, ne-eqb}
 use lib.ListN.{length, take, drop, getD, set, length-drop, length-append}
 use lib.Seq.{take-all, take-suc, take-suc-set, getD-drop}
 use lib.Dec.{leb, eqb}
-use Rattle.words.proofs.Facts.{both, choose-true, choose-false}
+use Rattle.words.proofs.Facts.{choose-true, choose-false}
 use Rattle.rules.specs.Codes.{nodeLimit}
 use Rattle.rules.specs.Names.{nameBy}
 use Rattle.rules.specs.Tree.{goodTree}
@@ -18,7 +18,6 @@ use Rattle.rules.specs.declared.State.{State}
 use Rattle.rules.specs.declared.Event.{Event}
 use Rattle.rules.specs.declared.Answer.{Answer}
 use Rattle.octets.specs.Prefixed.{window, reach, lengthAt}
-use Rattle.octets.specs.Fields.{eventSize}
 use Rattle.octets.specs.Written.{Wrote}
 use Rattle.octets.proofs.BytesWritten.{wrote-then, wrote-same}
 use Rattle.parts.proofs.Moving.{within-limit}
@@ -35,32 +34,42 @@ left-all o t = record { then = λ w. w }
 left-less : {o₀ t o o′ : List ℕ} {p p′ : ℕ} (u rest : List ℕ) → Left o₀ t o p (u ++ rest) → Wrote o p u o′ p′ → Left o₀ t o′ p′ rest
 left-less u rest l w = record { then = λ v. l .then (wrote-then w v) }
 
--- the tests of `record_ok`, in its order: l is how far the record may reach, n its length
-pub cut : (s : List ℕ) (at : ℕ) {l : ℕ} → l ≡ reach s → l < at + recordSize → false ≡ recordOk s at
-unfolding recordOk
-cut s at e h = rw (lt-leb (at + recordSize) (reach s) (omega arith))
+-- where no good record stands
+and-no : (a b : Bool) → b ≡ false → (a && b) ≡ false
+and-no true b e = e
+and-no false b e = refl
 
-pub sized : (s : List ℕ) (at : ℕ) {l n : ℕ} → l ≡ reach s → at + recordSize ≤ l → n ≡ lengthAt s at → eqb n eventSize ≡ recordOk s at
+pub cut : (s : List ℕ) (at k : ℕ) → reach s ≤ at + k → k < recordSize → recordOk s at ≡ false
 unfolding recordOk
-sized s at e h f = rw (le-leb (at + recordSize) (reach s) (omega arith), f)
+cut s at k h l = rw (lt-leb (at + recordSize) (reach s) (omega arith))
 
--- a good record is whole
-pub fits : (s : List ℕ) (at : ℕ) {b : Bool} → b ≡ recordOk s at → b ≡ true → at + recordSize ≤ reach s
+pub ended : (s : List ℕ) (at : ℕ) → length s ≤ at → recordOk s at ≡ false
+ended s at h = cut s at 0 (omega arith) (omega arith)
+
+pub wrong : (s : List ℕ) (at : ℕ) {r : List ℕ} {v : ℕ} → r ≡ recordAt s at → v ≡ lengthAt r 0 → (v ≡ 11 → ⊥) → recordOk s at ≡ false
 unfolding recordOk
-fits s at e h =
-    leb-true (at + recordSize) (reach s) (both (leb (at + recordSize) (reach s)) (eqb (lengthAt s at) eventSize) (sym e ∙ h) .0)
+wrong s at {r} {v} e f n =
+    let g : lengthAt (recordAt s at) 0 ≡ v = rw (← e) (sym f) in
+    and-no (leb (at + recordSize) (reach s)) (eqb (lengthAt (recordAt s at) 0) 11) (rw g (ne-eqb v 11 n))
 
--- the record that is copied out of the input: a byte more, and all of it
-pub byte-more : (r s : List ℕ) (at k : ℕ) → length r ≡ recordSize → k < recordSize → at + recordSize ≤ length s → take k r ≡ take k (drop at s) → take (k + 1) (set r k (getD s (at + k) 0)) ≡ take (k + 1) (drop at s)
+-- where one stands
+pub whole : (s : List ℕ) (at : ℕ) {r : List ℕ} {v : ℕ} → r ≡ recordAt s at → v ≡ lengthAt r 0 → v ≡ 11 → at + recordSize ≤ reach s → recordOk s at ≡ true
+unfolding recordOk
+whole s at {r} {v} e f g h =
+    let q : lengthAt (recordAt s at) 0 ≡ 11 = rw (← e) (sym f ∙ g) in
+    rw (le-leb (at + recordSize) (reach s) h) (eq-eqb (lengthAt (recordAt s at) 0) 11 q)
+
+-- the record that is copied out of the input, and a byte more of it
+pub copied : (s r : List ℕ) (at k : ℕ) → length r ≡ recordSize → recordSize ≤ k → k ≤ recordSize → take k r ≡ take k (drop at s) → r ≡ recordAt s at
+copied s r at k h l m e =
+    let n : k ≡ recordSize = omega arith in
+    sym (take-all recordSize r (omega arith)) ∙ rw n at e
+
+pub byte-more : (r s : List ℕ) (at k : ℕ) → length r ≡ recordSize → k < recordSize → at + k < length s → take k r ≡ take k (drop at s) → take (k + 1) (set r k (getD s (at + k) 0)) ≡ take (k + 1) (drop at s)
 byte-more r s at k h l g e =
     let m : k < length r = omega arith in
     let n : k < length (drop at s) = rw length-drop (omega arith) in
     rw (add-one, take-suc-set r k, take-suc (drop at s) k 0, getD-drop at s, e)
-
-pub copied : (r s : List ℕ) (at k : ℕ) → length r ≡ recordSize → recordSize ≤ k → k ≤ recordSize → take k r ≡ take k (drop at s) → r ≡ recordAt s at
-copied r s at k h l m e =
-    let n : k ≡ recordSize = omega arith in
-    sym (take-all recordSize r (omega arith)) ∙ rw n at e
 
 -- the names of the first x nodes: none, one more, all
 pub names-none : (rs es l : List ℕ) → take 0 l ≡ namesBy rs es 0
@@ -102,13 +111,14 @@ abbrev pub more : ℕ → ℕ
 more i = window + 1 - i
 
 -- a turn of the loop
-pub turned : {o₀ t o o′ : List ℕ} {p p′ : ℕ} (v : ℕ) (s : List ℕ) (at i : ℕ) (c : State) {e : Event} {a : Answer}
-    → Left o₀ t o p (eventsFrom v (more i) s at i c) → i ≤ window → recordOk s at ≡ true
-    → e ≡ eventOf v (recordAt s at) → a ≡ onwardOf c e → Wrote o p (line i (e .kind) (e .node) (a .number) (a .value)) o′ p′
+pub turned : {o₀ t o o′ : List ℕ} {p p′ : ℕ} (v : ℕ) (s : List ℕ) (at i : ℕ) (c : State) {r : List ℕ} {e : Event} {a : Answer}
+    → Left o₀ t o p (eventsFrom v (more i) s at i c) → i ≤ window → r ≡ recordAt s at → recordOk s at ≡ true
+    → e ≡ eventOf v r → a ≡ onwardOf c e → Wrote o p (line i (e .kind) (e .node) (a .number) (a .value)) o′ p′
     → Left o₀ t o′ p′ (eventsFrom v (more (i + 1)) s (at + recordSize) (i + 1) (a .state))
-turned {o₀} {t} {o} {o′} {p} {p′} v s at i c {e} {a} l h ok d g w =
+turned {o₀} {t} {o} {o′} {p} {p′} v s at i c {r} {e} {a} l h q ok f g w =
     let x : Event = eventOf v (recordAt s at) in
     let b : Answer = onwardOf c x in
+    let d : e ≡ x = f ∙ ap (eventOf v) q in
     let k : a ≡ b = g ∙ ap (onwardOf c) d in
     let u : Wrote o p (line i (x .kind) (x .node) (b .number) (b .value)) o′ p′ =
     subst (λ (z : Answer). Wrote o p (line i (x .kind) (x .node) (z .number) (z .value)) o′ p′) k
@@ -120,8 +130,9 @@ turned {o₀} {t} {o} {o′} {p} {p′} v s at i c {e} {a} l h ok d g w =
 pub counted : (s : State) → goodTree s ≡ true → s .count ≤ nodeLimit
 counted s h = leb-true (s .count) nodeLimit (within-limit s h)
 
-pub closes : {o₀ t o o′ : List ℕ} {p r : ℕ} (v n : ℕ) (s : List ℕ) (at i : ℕ) (c : State) → Left o₀ t o p (eventsFrom v n s at i c) → recordOk s at ≡ false → Wrote o p (closing s at c) o′ r → Wrote o₀ 0 t o′ r
-closes v n s at i c l h w = l .then (wrote-same (sym (stops v n s at i c h)) w)
+-- z is the offset with which the loop was left
+pub closes : {o₀ t o o′ : List ℕ} {p r z : ℕ} (v n : ℕ) (s : List ℕ) (at i : ℕ) (c : State) → Left o₀ t o p (eventsFrom v n s at i c) → z ≡ at → recordOk s at ≡ false → Wrote o p (closing s z c) o′ r → Wrote o₀ 0 t o′ r
+closes v n s at i c l e h w = l .then (wrote-same (rw e (sym (stops v n s at i c h))) w)
 
 module _ {o o′ : List ℕ} {p r : ℕ} (s : List ℕ) (at n : ℕ) (rs es : List ℕ) where
   pub ends : {l : List ℕ} → l ≡ namesBy rs es n → length s ≤ at → Wrote o p (endLine l) o′ r → Wrote o p (closingIn s at n rs es) o′ r

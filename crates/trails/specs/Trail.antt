@@ -56,7 +56,7 @@ abbrev pub recordAt : List ℕ → ℕ → List ℕ
 recordAt s at = take recordSize (drop at s)
 
 unfoldable pub recordOk : List ℕ → ℕ → Bool
-recordOk s at = leb (at + recordSize) (reach s) && eqb (lengthAt s at) eventSize
+recordOk s at = leb (at + recordSize) (reach s) && eqb (lengthAt (recordAt s at) 0) eventSize
 
 -- the event of a record, as a trail of version v reads it: version 1 takes the fields as they stand
 unfoldable pub eventOf : ℕ → List ℕ → Event

@@ -2,13 +2,13 @@
 ghost use mathlib.Core.Path.{_≡_};
 ghost use Prim.Native.Nat.{_+_, _<_, _≤_};
 ghost use mathlib.Core.Bool.{true};
-ghost use lib.ListN.{length, take};
+ghost use lib.ListN.{take};
 ghost use Rattle.rules.specs.Codes.{nodeLimit};
 ghost use Rattle.rules.specs.Tree.{goodTree};
 ghost use Rattle.octets.specs.Prefixed.{window, reach};
 ghost use Rattle.octets.specs.Written.{Wrote};
 ghost use Rattle.lines.specs.Lines.{line};
-ghost use Rattle.trails.specs.Trail.{First, room, shortest, firstLength, recordSize, recordAt, recordOk, namesBy, closingIn, eventOf, eventsFrom, startedFrom, resetBy};
+ghost use Rattle.trails.specs.Trail.{First, room, shortest, firstLength, namesBy, closingIn, eventOf, eventsFrom, startedFrom, resetBy};
 use crate::ROOM;
 use crate::first::parents;
 use lines::put_bad;
@@ -31,36 +31,11 @@ use rules::State;
 // An event record with its length.
 const RECORD: usize = PREFIX + EVENT;
 
-// Whether a good record stands at `at`.
-fn record_ok(input: &[u8], at: usize) -> bool
-    requires { ⌜ at ≤ window ⌝ }
-    ensures { λ r. ⌜ r ≡ recordOk (now (input .entry)) at ⌝ }
+// The event of a record, as a trail of the version reads it.
+fn event(version: u8, r: &[u8; RECORD]) -> Event
+    ensures { λ e. ⌜ e ≡ eventOf version (now (r .entry)) ⌝ }
 {
-    if at + RECORD > reach(input) {
-        return false;
-    }
-    length_at(input, at) == EVENT as u64
-}
-
-// The record at `at`, in an array: what is read from it needs no look at the input's length.
-fn record_at(input: &[u8], at: usize) -> [u8; RECORD]
-    requires { ⌜ at + recordSize ≤ length (now input) ⌝ }
-    ensures { λ r. ⌜ r ≡ recordAt (now (input .entry)) at ⌝ }
-{
-    let mut bytes = [0u8; RECORD];
-    for k in 0..RECORD {
-        bytes[k] = input[at + k];
-    }
-    bytes
-}
-
-// The event of the record at `at`, as a trail of the version reads it.
-fn event(version: u8, input: &[u8], at: usize) -> Event
-    requires { ⌜ at + recordSize ≤ length (now input) ⌝ }
-    ensures { λ e. ⌜ e ≡ eventOf version (recordAt (now (input .entry)) at) ⌝ }
-{
-    let bytes = record_at(input, at);
-    event_at(&bytes, PREFIX)
+    event_at(r, PREFIX)
 }
 
 // The line of an event that a trail prints: an index has at most five digits.
@@ -88,28 +63,28 @@ fn names<'a>(
     names
 }
 
-// The last line: the input ended at `at`, or a bad record stands there. The configuration's arrays are lent, not copied.
+// The last line: the input ended at `end`, or a bad record stands there. The configuration's arrays are lent, not copied.
 fn put_closing<'a>(
     input: &[u8],
     out: &mut [u8; ROOM],
-    p: usize,
     at: usize,
+    end: usize,
     n: u8,
     rights: &'a [u8; State::NODES],
     entries: &'a [u8; State::CELLS],
 ) -> usize
     requires { ⌜ n ≤ nodeLimit ⌝ }
-    ensures { λ r. ⌜ Wrote (now (out .entry)) p (closingIn (now (input .entry)) at n (now (rights .entry)) (now (entries .entry))) (now (out .exit)) r ⌝ }
-    ensures { λ r. ⌜ r ≤ p + 800 ⌝ }
+    ensures { λ r. ⌜ Wrote (now (out .entry)) at (closingIn (now (input .entry)) end n (now (rights .entry)) (now (entries .entry))) (now (out .exit)) r ⌝ }
+    ensures { λ r. ⌜ r ≤ at + 800 ⌝ }
 {
-    if at >= input.len() {
+    if end >= input.len() {
         let codes = names(n, rights, entries);
-        return put_end(out, p, &codes[..n as usize]);
+        return put_end(out, at, &codes[..n as usize]);
     }
-    put_bad(out, p, at)
+    put_bad(out, at, end)
 }
 
-// The text of the events from the offset `first` on, until no good record stands there.
+// The text of the events from the offset `first` on. The loop breaks with the offset of a bad record, or of the input's end.
 // The configuration stands in its parts and is changed in place: an event copies a node and a link. Its tree is good, so number 1
 // is not looked for at each event.
 fn events(input: &[u8], out: &mut [u8; ROOM], version: u8, start: State, first: usize) -> usize
@@ -119,6 +94,7 @@ fn events(input: &[u8], out: &mut [u8; ROOM], version: u8, start: State, first: 
     ensures { λ r. ⌜ Wrote (now (out .entry)) 0 (eventsFrom version window (now (input .entry)) first 1 start) (now (out .exit)) r ⌝ }
     ensures { λ r. ⌜ r < room ⌝ }
 {
+    let limit = reach(input);
     let count = start.count;
     let parents = start.parents;
     let mut rights = start.rights;
@@ -130,8 +106,26 @@ fn events(input: &[u8], out: &mut [u8; ROOM], version: u8, start: State, first: 
     let mut at = first;
     let mut index: u64 = 1;
     let mut p: usize = 0;
-    while record_ok(input, at) {
-        let ev = event(version, input, at);
+    let end = 'events: loop {
+        if at >= input.len() {
+            break 'events at;
+        }
+        let mut record = [0u8; RECORD];
+        let mut k: usize = 0;
+        'record: loop {
+            if k >= RECORD {
+                break 'record;
+            }
+            if at + k >= limit {
+                break 'events at;
+            }
+            record[k] = input[at + k];
+            k = k + 1;
+        }
+        if length_at(&record, 0) != EVENT as u64 {
+            break 'events at;
+        }
+        let ev = event(version, &record);
         let x = node_of(ev);
         let m = nodes[x];
         let j = end_of(ev, m);
@@ -154,8 +148,8 @@ fn events(input: &[u8], out: &mut [u8; ROOM], version: u8, start: State, first: 
         p = put_next(out, p, index, ev, a.number, a.value);
         index = index + 1;
         at = at + RECORD;
-    }
-    put_closing(input, out, p, at, count, &rights, &entries)
+    };
+    put_closing(input, out, p, end, count, &rights, &entries)
 }
 
 // Reset, as the first record asks for it.

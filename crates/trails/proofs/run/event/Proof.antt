@@ -1,4 +1,3 @@
--- `event` meets its contract: version 1 takes the fields as they stand.
 use borrow.Author.Needs.{needs}
 use Rattle.trails.specs.Trail.{eventOf}
 use Rattle.trails.proofs.run.event.Statement.{statement}
@@ -9,6 +8,4 @@ unfolding eventOf
 event-spec =
     tie.close (tie.spec
     (λ c κs. search needs)
-    (λ c. search needs)
-    (λ c κs. search needs)
-    (λ c. rw (← c .before .before .record-at .ensures) (c .event-at .ensures)))
+    (λ c. search needs))
