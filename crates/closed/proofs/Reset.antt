@@ -3,52 +3,30 @@ use mathlib.Core.Path.{_≡_, refl, _∙_}
 use mathlib.Core.Bool.{Bool, true, false, not, _&&_, _||_, or-true}
 use mathlib.Core.Logic.{_≢_}
 use mathlib.Core.List.{List}
-use Prim.Native.Nat.{ℕ, _+_, _<_, _≤_}
-use native.Mathlib.Nat.{zero-add}
+use Prim.Native.Nat.{ℕ, _<_}
 use native.Mathlib.Decide.{ℕ-discrete}
 use native.Mathlib.Omega.{arith}
-use borrow.Author.Tests.{lt-ltb, ltb-false, le-leb, eqb-false, not-false}
-use lib.ListN.{getD, length, replicate, length-replicate, getD-replicate}
+use borrow.Author.Tests.{lt-ltb, eqb-false, not-false}
+use lib.ListN.{getD, replicate, getD-replicate}
 use lib.Seq.{getD-set-other}
-use lib.Dec.{eqb, leb, ltb}
+use lib.Dec.{eqb, ltb}
 use Rattle.words.specs.Vocab.{fill, choose}
-use Rattle.words.proofs.Facts.{both, and-true, or-left, or-right, by-test, all-at, all-from, getD-fill-at}
+use Rattle.words.proofs.Facts.{and-true, or-left, by-test}
 use Rattle.rules.specs.Codes.{nodeLimit, cells, rightsN, tip, none, accepts}
 use Rattle.rules.specs.With.{withValue}
 use Rattle.rules.specs.Cells.{blankNode, blankLink, cell, rights, entry, toProbe, pending, node, link}
-use Rattle.rules.specs.Tree.{parentOk, treeOk, goodTree, isChild}
+use Rattle.rules.specs.Tree.{treeOk, isChild}
 use Rattle.rules.specs.Messages.{carriesUp, carriesDown, isProbeAck}
 use Rattle.rules.specs.Configuration.{copyOk, childOk, probeOk, upOk, downOk, memberOk, entryOk, slotsEmpty, blank, standsOk, configurationOk}
 use Rattle.rules.specs.Step.{treeParent, treeParents, startOf, resetOf}
 use Rattle.rules.specs.declared.Node.{Node}
 use Rattle.rules.specs.declared.Answer.{Answer}
+use Rattle.laws.proofs.ResetTree.{parent-at}
 use Rattle.writes.proofs.Writes.{Sized}
 use Rattle.writes.proofs.Accepted.{tree}
 use Rattle.closed.proofs.Subjects.{Own, Slots, Pair}
 use Rattle.closed.proofs.Fits.{Fits, from-fits}
 use Rattle.closed.proofs.Work.{idle-main}
-
--- the parents that reset writes
-parent-at : (n : ℕ) (ps : List ℕ) (k : ℕ) → k < nodeLimit → getD (treeParents n ps) k 0 ≡ treeParent n ps k
-unfolding treeParents
-parent-at n ps k h =
-    let l : 0 + nodeLimit ≤ length {A = ℕ} (replicate nodeLimit 0) = omega (arith, length-replicate {A = ℕ} nodeLimit 0) in
-    rw zero-add at (getD-fill-at (treeParent n ps) 0 nodeLimit (replicate nodeLimit 0) 0 k l h)
-
--- the tree is as good as the one that was given
-parents-tree : (n : ℕ) (ps : List ℕ) → treeOk n ps ≡ true → treeOk n (treeParents n ps) ≡ true
-unfolding treeOk treeParent
-parents-tree n ps h =
-    let u = both (leb 2 n && leb n nodeLimit) _ h in
-    and-true _ _ (u .0) (all-from (parentOk n (treeParents n ps)) nodeLimit λ k b. rw (parent-at n ps k b) (go k (all-at (parentOk n ps) nodeLimit k (u .1) b)))
-  where
-    go : (k : ℕ) → parentOk n ps k ≡ true → (eqb k 0 || leb n k || ltb (treeParent n ps k) k) ≡ true
-    go k g =
-        by-test Ok (ltb k n) _ _ (λ _. by-test Ok (eqb k 0) _ _ (λ e. rw e) (λ _. g)) λ l.
-        or-left _ _ (or-right (eqb k 0) _ (le-leb n k (ltb-false k n l)))
-      where
-        Ok : ℕ → Type 0
-        Ok p = (eqb k 0 || leb n k || ltb p k) ≡ true
 
 -- a node with an empty link stands where it may: where the parent is not the given one it is 0
 start-stands : (n : ℕ) (ps : List ℕ) (y r : ℕ) (m : Node) → y < nodeLimit → (ltb y n || blank r m) ≡ true
@@ -148,10 +126,6 @@ module _ (n : ℕ) (ps : List ℕ) (v : ℕ) (g : treeOk n ps ≡ true) where
         pairs = λ k b. start-pair y k h b;
       }
 
-  pub start-tree : goodTree (startOf n ps v) ≡ true
-  unfolding startOf
-  start-tree = parents-tree n ps g
-
   pub start-configuration : configurationOk (startOf n ps v) ≡ true
   start-configuration = from-fits (startOf n ps v) λ y h. go y h (ℕ-discrete y 0)
     where
@@ -165,10 +139,3 @@ unfolding resetOf
 reset-closed n ps v =
     by-test (λ (a : Answer). a .number ≡ accepts → configurationOk (a .state) ≡ true) (not (treeOk n ps)) _ _
     (λ _ h. absurd (omega arith)) (λ g _. start-configuration n ps v (not-false _ g))
-
--- on a good tree
-pub reset-tree : (n : ℕ) (ps : List ℕ) (v : ℕ) → resetOf n ps v .number ≡ accepts → goodTree (resetOf n ps v .state) ≡ true
-unfolding resetOf
-reset-tree n ps v =
-    by-test (λ (a : Answer). a .number ≡ accepts → goodTree (a .state) ≡ true) (not (treeOk n ps)) _ _
-    (λ _ h. absurd (omega arith)) (λ g _. start-tree n ps v (not-false _ g))

@@ -88,5 +88,5 @@ pub fn onward(s: State, ev: Event) -> Answer
 pub fn named(s: State, x: u8) -> u8
     ensures { λ r. ⌜ r ≡ named s x ⌝ }
 {
-    parts::name_by(&s.rights, &s.entries, x)
+    names::name_by(&s.rights, &s.entries, x)
 }

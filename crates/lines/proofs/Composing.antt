@@ -1,12 +1,14 @@
 -- Lines put together from what was written, and how long they are.
-use mathlib.Core.Path.{_≡_}
+use mathlib.Core.Path.{_≡_, refl}
 use mathlib.Core.List.{List, [], _∷_, flatMap}
 use Prim.Native.Nat.{ℕ, suc, _+_, _*_, _^_, _<_, _≤_, zero, min}
+use native.Mathlib.Numerals.{add-one}
 use native.Mathlib.Omega.{arith}
-use lib.ListN.{length, take, getD, length-append, List·getD-eq-default}
+use lib.ListN.{length, length-append, List·getD-eq-default}
+use Rattle.rules.specs.Names.{nameBy}
 use Rattle.octets.specs.Written.{Wrote}
-use Rattle.octets.proofs.BytesWritten.{wrote-then, wrote-none, each-more}
-use Rattle.lines.specs.Lines.{space, newline, decimal, field, asked, line, nameText, nameTexts, nameLine, endLine, badLine}
+use Rattle.octets.proofs.BytesWritten.{wrote-then, wrote-none, wrote-length, one-more}
+use Rattle.lines.specs.Lines.{space, newline, decimal, field, asked, line, nameText, nameTexts, nameLine, namesBy, endLine, badLine}
 use Rattle.lines.proofs.Decimal.{spelled-short}
 
 -- a number, then what follows it
@@ -14,9 +16,19 @@ pub field-wrote : {a b c : List ℕ} {at p r : ℕ} (n after : ℕ) {t : List �
 unfolding field
 field-wrote n after e f g = rw e at (wrote-then f g)
 
--- one name more
-pub name-more : {a b c : List ℕ} {at p r : ℕ} (l : List ℕ) (k : ℕ) → Wrote a at (nameLine (take k l)) b p → k < length l → Wrote b p (nameText (getD l k 0)) c r → Wrote a at (nameLine (take (k + 1) l)) c r
-name-more l k = each-more nameText l k 0
+-- the names of the first x nodes: one more, and all
+pub name-more : {a b c : List ℕ} {at p r : ℕ} (rs es : List ℕ) (x : ℕ) {n : ℕ} → Wrote a at (nameLine (namesBy rs es x)) b p → n ≡ nameBy rs es x → Wrote b p (nameText n) c r → Wrote a at (nameLine (namesBy rs es (x + 1))) c r
+unfolding namesBy
+name-more rs es x f e g = rw (add-one, ← e) (one-more nameText (namesBy rs es x) _ f g)
+
+pub names-none : (rs es a : List ℕ) (at : ℕ) {p : ℕ} → p ≡ min at (length a) → Wrote a at (nameLine (namesBy rs es 0)) a p
+unfolding namesBy flatMap
+names-none rs es a at e = wrote-none a at e
+
+pub names-all : {a b : List ℕ} {at p : ℕ} (rs es : List ℕ) (x n : ℕ) → x ≤ n → n ≤ x → Wrote a at (nameLine (namesBy rs es x)) b p → Wrote a at (nameLine (namesBy rs es n)) b p
+names-all rs es x n h g w = let e : n ≡ x = omega arith in rw e w
+
+pub ruleset naming = (names-none, name-more, names-all, wrote-length, arith)
 
 -- the name of the code k, and no name
 pub name-wrote : {a b : List ℕ} {at r k n : ℕ} → n ≡ k → Wrote a at (nameText k) b r → Wrote a at (nameText n) b r
@@ -57,6 +69,11 @@ unfolding flatMap
 names-short [] = omega arith
 names-short (n ∷ l) = rw length-append (omega (arith, names-short l, name-short n))
 
+names-long : (rs es : List ℕ) (n : ℕ) → length (namesBy rs es n) ≡ n
+unfolding namesBy
+names-long rs es zero = refl
+names-long rs es (suc n) = rw (length-append, names-long rs es n) (omega arith)
+
 end-short : (l : List ℕ) → length (endLine l) ≤ 3 * length l + 4
 unfolding endLine
 end-short l = simp length-append (omega (arith, names-short l))
@@ -69,5 +86,5 @@ module _ {a b : List ℕ} {at r : ℕ} where
   pub bad-near : (p : ℕ) → Wrote a at (badLine p) b r → p < 2 ^ 64 → r ≤ at + 800
   bad-near p w h = omega (arith, w .next, bad-short p h)
 
-  pub end-near : (l : List ℕ) → Wrote a at (endLine l) b r → length l < 256 → r ≤ at + 800
-  end-near l w h = omega (arith, w .next, end-short l)
+  pub end-near : (rs es : List ℕ) (n : ℕ) → Wrote a at (endLine (namesBy rs es n)) b r → n < 256 → r ≤ at + 800
+  end-near rs es n w h = omega (arith, w .next, end-short (namesBy rs es n), names-long rs es n)

@@ -6,6 +6,7 @@ use Prim.Native.String.{String, [], _∷_}
 use lib.ListN.{getD}
 use lib.Dec.{ltb}
 use Rattle.words.specs.Vocab.{choose}
+use Rattle.rules.specs.Names.{nameBy}
 
 -- the bytes of a text in ASCII
 abbrev pub ascii : String → List ℕ
@@ -47,6 +48,11 @@ nameText n = getD nameTexts n none
 
 abbrev pub nameLine : List ℕ → List ℕ
 nameLine = flatMap nameText
+
+-- the names of the first n nodes, in order, by the rights and the entries of all nodes
+unfoldable pub namesBy : List ℕ → List ℕ → ℕ → List ℕ
+namesBy rs es zero = none
+namesBy rs es (suc n) = namesBy rs es n ++ (nameBy rs es n then none)
 
 -- "`end` and the node names in order"
 unfoldable pub endLine : List ℕ → List ℕ

@@ -2,11 +2,13 @@
 // answers the place after its text.
 ghost use Prim.Native.Nat.{_<_};
 ghost use Rattle.octets.specs.Written.{Wrote};
-ghost use Rattle.lines.specs.Lines.{field, asked, line, nameText, nameLine, endLine, badLine};
+ghost use Rattle.lines.specs.Lines.{field, asked, line, nameText, nameLine, namesBy, endLine, badLine};
+use names::name_by;
 use octets::limits::least;
 use octets::put::put_byte;
 use octets::put::put_bytes;
 use rules::Event;
+use rules::State;
 use rules::codes::Name;
 
 // A number of one digit, as most are, and the byte after it.
@@ -70,23 +72,36 @@ fn put_name(out: &mut [u8], at: usize, name: u8) -> usize
     }
 }
 
-// The names, one after the other.
-fn put_names(out: &mut [u8], at: usize, names: &[u8]) -> usize
-    ensures { λ r. ⌜ Wrote (now (out .entry)) at (nameLine (now (names .entry))) (now (out .exit)) r ⌝ }
+// The names of the first n nodes, one after the other.
+fn put_names<'a>(
+    out: &mut [u8],
+    at: usize,
+    n: u8,
+    rights: &'a [u8; State::NODES],
+    entries: &'a [u8; State::CELLS],
+) -> usize
+    ensures { λ r. ⌜ Wrote (now (out .entry)) at (nameLine (namesBy (now (rights .entry)) (now (entries .entry)) n)) (now (out .exit)) r ⌝ }
 {
     let mut p = least(at, out.len());
-    for k in 0..names.len() {
-        p = put_name(out, p, names[k]);
+    for x in 0..n {
+        let name = name_by(rights, entries, x);
+        p = put_name(out, p, name);
     }
     p
 }
 
 // "`end` and the node names in order"
-pub fn put_end(out: &mut [u8], at: usize, names: &[u8]) -> usize
-    ensures { λ r. ⌜ Wrote (now (out .entry)) at (endLine (now (names .entry))) (now (out .exit)) r ⌝ }
+pub fn put_end<'a>(
+    out: &mut [u8],
+    at: usize,
+    n: u8,
+    rights: &'a [u8; State::NODES],
+    entries: &'a [u8; State::CELLS],
+) -> usize
+    ensures { λ r. ⌜ Wrote (now (out .entry)) at (endLine (namesBy (now (rights .entry)) (now (entries .entry)) n)) (now (out .exit)) r ⌝ }
 {
     let p = put_bytes(out, at, b"end");
-    let q = put_names(out, p, names);
+    let q = put_names(out, p, n, rights, entries);
     put_byte(out, q, b'\n')
 }
 

@@ -99,12 +99,15 @@ module _ {A : Type 0} (f : A → List ℕ) where
   flat-length n h [] = omega arith
   flat-length n h (x ∷ l) = rw (length-append, h x, flat-length n h l) (omega arith)
 
+  pub one-more : {a b c : List ℕ} {at p r : ℕ} (l : List A) (x : A) → Wrote a at (flatMap f l) b p → Wrote b p (f x) c r → Wrote a at (flatMap f (l ++ (x ∷ []))) c r
+  one-more l x w v = rw (flat-append, flat-one) (wrote-then w v)
+
   pub each-none : (a : List ℕ) (at : ℕ) (l : List A) {p : ℕ} → p ≡ min at (length a) → Wrote a at (flatMap f (take 0 l)) a p
   unfolding flatMap
   each-none a at l e = wrote-none a at e
 
   pub each-more : {a b c : List ℕ} {at p r : ℕ} (l : List A) (k : ℕ) (d : A) → Wrote a at (flatMap f (take k l)) b p → k < length l → Wrote b p (f (getD l k d)) c r → Wrote a at (flatMap f (take (k + 1) l)) c r
-  each-more l k d w h v = rw (add-one, take-suc l k d h, flat-append, flat-one) (wrote-then w v)
+  each-more l k d w h v = rw (add-one, take-suc l k d h) (one-more (take k l) (getD l k d) w v)
 
   pub each-all : {a b : List ℕ} {at p : ℕ} (l : List A) (k : ℕ) → Wrote a at (flatMap f (take k l)) b p → length l ≤ k → Wrote a at (flatMap f l) b p
   each-all l k w h = rw (take-all k l h) at w

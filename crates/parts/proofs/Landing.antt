@@ -2,14 +2,10 @@
 use mathlib.Core.Path.{_≡_, refl}
 use mathlib.Core.Bool.{Bool}
 use mathlib.Core.List.{List}
-use Prim.Native.Nat.{ℕ, _≤_}
-use native.Mathlib.Omega.{arith}
-use lib.ListN.{List·getD-eq-default, length, getD}
+use Prim.Native.Nat.{ℕ}
 use borrow.Author.Tests.{eq-eqb, ne-eqb}
-use Rattle.words.specs.Vocab.{choose}
 use Rattle.words.proofs.Facts.{choose-true, choose-false}
-use Rattle.rules.specs.Codes.{nodeLimit, rightsN, nameN, accepts}
-use Rattle.rules.specs.Names.{nameOf}
+use Rattle.rules.specs.Codes.{accepts}
 use Rattle.rules.specs.Table.{kindOf}
 use Rattle.rules.specs.declared.Event.{Event}
 use Rattle.rules.specs.declared.kinds.Row.{Row}
@@ -19,15 +15,6 @@ use Rattle.parts.specs.declared.Acted.{Acted}
 use Rattle.rules.specs.declared.Node.{Node}
 use Rattle.rules.specs.declared.Link.{Link}
 use Rattle.rules.specs.declared.Scene.{Scene}
-
--- past the rights there is no node, and it is named N
-pub name-none : (rs : List ℕ) (i : ℕ) (trunks branches : Bool) → length rs ≡ nodeLimit → nodeLimit ≤ i → nameN ≡ nameOf (getD rs i rightsN) trunks branches
-unfolding nameOf choose
-name-none rs i trunks branches e h = let l : length rs ≤ i = omega arith in rw (List·getD-eq-default rs rightsN l)
-
--- a name from what was found of the row
-pub named-by : {r r′ n : ℕ} {t t′ b b′ : Bool} → n ≡ nameOf r t b → r ≡ r′ → t ≡ t′ → b ≡ b′ → n ≡ nameOf r′ t′ b′
-named-by h p q g = rw (← p, ← q, ← g) h
 
 -- a scene from what was found of the row
 pub seen : (r : ℕ) (m : Node) (l : Link) (e : ℕ) (w u : Bool) {a b c d f g a′ b′ c′ d′ f′ g′ : Bool}

@@ -2,17 +2,15 @@
 // Nothing is copied.
 ghost use mathlib.Core.Path.{_≡_};
 ghost use Prim.Native.Nat.{_<_};
-ghost use Rattle.rules.specs.Codes.{nodeLimit, trunk, branch};
+ghost use Rattle.rules.specs.Codes.{nodeLimit};
 ghost use Rattle.rules.specs.Step.{endOf};
 ghost use Rattle.parts.specs.Parts.{indexOf, endIn, sceneIn, Laid, partsAt, partsIn, Landed};
-ghost use Rattle.rules.specs.Names.{nameBy, nameOf, someIn};
 use crate::probes::write_row;
 use crate::sets::none_held;
 use crate::sets::others_none;
 use crate::sets::sets_empty;
-use crate::sets::some_entry;
-use choices::name::name_of;
 use choices::settle::settled_phase;
+use names::some_entry;
 use needs::judge::judged;
 use rules::Answer;
 use rules::Event;
@@ -21,7 +19,6 @@ use rules::Node;
 use rules::Scene;
 use rules::State;
 use rules::codes::Entry;
-use rules::codes::Name;
 use rules::kinds::End;
 use rules::kinds::Row;
 use trees::is_leaf;
@@ -243,28 +240,4 @@ pub fn act(
         j,
         ev,
     )
-}
-
-// The name of a node of the arrays, with the rights r.
-fn node_name(entries: &[u8; State::CELLS], r: u8, x: usize) -> u8
-    requires { ⌜ x < nodeLimit ⌝ }
-    ensures { λ res. ⌜ res ≡ nameOf r (someIn (now (entries .entry)) x trunk) (someIn (now (entries .entry)) x branch) ⌝ }
-{
-    let trunks = some_entry(entries, x, Entry::TRUNK);
-    let branches = some_entry(entries, x, Entry::BRANCH);
-    name_of(r, trunks, branches)
-}
-
-// The name of node x on the lent rights and entries; beyond the node limit it is N, as of a node with no rights.
-pub fn name_by<'a>(rights: &'a [u8; State::NODES], entries: &'a [u8; State::CELLS], x: u8) -> u8
-    ensures { λ r. ⌜ r ≡ nameBy (now (rights .entry)) (now (entries .entry)) x ⌝ }
-{
-    let i = x as usize;
-    // Lent as a slice, the array shows the proof how long it is.
-    let r = trees::at(rights, i);
-    if i < State::NODES {
-        node_name(entries, r, i)
-    } else {
-        Name::N
-    }
 }

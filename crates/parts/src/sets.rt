@@ -3,20 +3,9 @@
 ghost use mathlib.Core.Path.{_≡_};
 ghost use Prim.Native.Nat.{_<_};
 ghost use Rattle.rules.specs.Codes.{nodeLimit};
-ghost use Rattle.rules.specs.Names.{someIn, noneIn, othersNoneIn, memberIn, setsEmptyIn};
+ghost use Rattle.rules.specs.Names.{noneIn, othersNoneIn, memberIn, setsEmptyIn};
 use rules::State;
 use rules::codes::Entry;
-
-pub fn some_entry(entries: &[u8; State::CELLS], x: usize, e: u8) -> bool
-    requires { ⌜ x < nodeLimit ⌝ }
-    ensures { λ r. ⌜ r ≡ someIn (now (entries .entry)) x e ⌝ }
-{
-    let mut some = false;
-    for k in 0..State::NODES {
-        some = some | (entries[x * State::NODES + k] == e);
-    }
-    some
-}
 
 pub fn none_held(entries: &[u8; State::CELLS], x: usize) -> bool
     requires { ⌜ x < nodeLimit ⌝ }

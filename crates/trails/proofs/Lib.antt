@@ -1,3 +1,3 @@
--- Laws of the trail: the first record, and the loop over the events.
+-- Laws of the trail: its ways as a whole, and the loop over the events.
 pub mod Starting
 pub mod Running

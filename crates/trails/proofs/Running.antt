@@ -5,14 +5,11 @@ use mathlib.Core.List.{List, _++_}
 use Prim.Native.Nat.{ℕ, zero, suc, _+_, _-_, _<_, _≤_}
 use native.Mathlib.Numerals.{add-one}
 use native.Mathlib.Omega.{arith}
-use borrow.Author.Tests.{le-leb, lt-leb, leb-true, eq-eqb, ne-eqb}
-use lib.ListN.{length, take, drop, getD, set, length-drop, length-append}
+use borrow.Author.Tests.{le-leb, lt-leb, eq-eqb, ne-eqb}
+use lib.ListN.{length, take, drop, getD, set, length-drop}
 use lib.Seq.{take-all, take-suc, take-suc-set, getD-drop}
 use lib.Dec.{leb, eqb}
 use Rattle.words.proofs.Facts.{choose-true, choose-false}
-use Rattle.rules.specs.Codes.{nodeLimit}
-use Rattle.rules.specs.Names.{nameBy}
-use Rattle.rules.specs.Tree.{goodTree}
 use Rattle.rules.specs.Step.{onwardOf}
 use Rattle.rules.specs.declared.State.{State}
 use Rattle.rules.specs.declared.Event.{Event}
@@ -20,9 +17,8 @@ use Rattle.rules.specs.declared.Answer.{Answer}
 use Rattle.octets.specs.Prefixed.{window, reach, lengthAt}
 use Rattle.octets.specs.Written.{Wrote}
 use Rattle.octets.proofs.BytesWritten.{wrote-then, wrote-same}
-use Rattle.parts.proofs.Moving.{within-limit}
-use Rattle.lines.specs.Lines.{line, endLine, badLine}
-use Rattle.trails.specs.Trail.{recordSize, recordAt, recordOk, eventOf, namesBy, closingIn, closing, eventsFrom, lineOf}
+use Rattle.lines.specs.Lines.{line, namesBy, endLine, badLine}
+use Rattle.trails.specs.Trail.{recordSize, recordAt, recordOk, eventOf, closingIn, closing, eventsFrom, lineOf}
 
 -- the rest, written from p on, makes t of what stood in the buffer at first
 pub record Left (o₀ t o : List ℕ) (p : ℕ) (rest : List ℕ) : Type 0 where
@@ -71,31 +67,6 @@ byte-more r s at k h l g e =
     let n : k < length (drop at s) = rw length-drop (omega arith) in
     rw (add-one, take-suc-set r k, take-suc (drop at s) k 0, getD-drop at s, e)
 
--- the names of the first x nodes: none, one more, all
-pub names-none : (rs es l : List ℕ) → take 0 l ≡ namesBy rs es 0
-unfolding namesBy
-names-none rs es l = refl
-
-pub names-more : (rs es l : List ℕ) (x : ℕ) {a : ℕ} → x < length l → take x l ≡ namesBy rs es x → a ≡ nameBy rs es x → take (x + 1) (set l x a) ≡ namesBy rs es (x + 1)
-unfolding namesBy
-names-more rs es l x h e f = rw (add-one, take-suc-set l x, e, f)
-
-pub names-all : (rs es l : List ℕ) (x n : ℕ) → x ≤ n → n ≤ x → take x l ≡ namesBy rs es x → take n l ≡ namesBy rs es n
-names-all rs es l x n h g e = let f : n ≡ x = omega arith in rw f e
-
-names-long : (rs es : List ℕ) (n : ℕ) → length (namesBy rs es n) ≡ n
-unfolding namesBy
-names-long rs es zero = refl
-names-long rs es (suc n) = rw (length-append, names-long rs es n) (omega arith)
-
-pub names-count : (rs es : List ℕ) (n : ℕ) {l : List ℕ} → l ≡ namesBy rs es n → n ≡ length l
-names-count rs es n e = rw e (sym (names-long rs es n))
-
-pub names-few : (rs es : List ℕ) (n : ℕ) {l : List ℕ} → l ≡ namesBy rs es n → n ≤ nodeLimit → length l < 256
-names-few rs es n e h = omega (arith, names-count rs es n e)
-
-pub ruleset naming = (names-none, names-more, names-all, arith)
-
 -- what the definition says at a good record, and elsewhere
 stops : (v n : ℕ) (s : List ℕ) (at i : ℕ) (c : State) → recordOk s at ≡ false → eventsFrom v n s at i c ≡ closing s at c
 unfolding eventsFrom
@@ -126,18 +97,14 @@ turned {o₀} {t} {o} {o′} {p} {p′} v s at i c {r} {e} {a} l h q ok f g w =
     subst⁻¹ (λ (z : Answer). Left o₀ t o′ p′ (eventsFrom v (more (i + 1)) s (at + recordSize) (i + 1) (z .state))) k
     (left-less (lineOf i x (onwardOf c x)) _ (rw (goes v (more i) (more (i + 1)) s at i c (omega arith) ok) at l) u)
 
--- the last line; it names no more nodes than the limit
-pub counted : (s : State) → goodTree s ≡ true → s .count ≤ nodeLimit
-counted s h = leb-true (s .count) nodeLimit (within-limit s h)
-
--- z is the offset with which the loop was left
+-- the last line: z is the offset with which the loop was left
 pub closes : {o₀ t o o′ : List ℕ} {p r z : ℕ} (v n : ℕ) (s : List ℕ) (at i : ℕ) (c : State) → Left o₀ t o p (eventsFrom v n s at i c) → z ≡ at → recordOk s at ≡ false → Wrote o p (closing s z c) o′ r → Wrote o₀ 0 t o′ r
 closes v n s at i c l e h w = l .then (wrote-same (rw e (sym (stops v n s at i c h))) w)
 
 module _ {o o′ : List ℕ} {p r : ℕ} (s : List ℕ) (at n : ℕ) (rs es : List ℕ) where
-  pub ends : {l : List ℕ} → l ≡ namesBy rs es n → length s ≤ at → Wrote o p (endLine l) o′ r → Wrote o p (closingIn s at n rs es) o′ r
+  pub ends : length s ≤ at → Wrote o p (endLine (namesBy rs es n)) o′ r → Wrote o p (closingIn s at n rs es) o′ r
   unfolding closingIn
-  ends e h w = wrote-same (rw e (sym (choose-true _ _ (le-leb (length s) at h)))) w
+  ends h w = wrote-same (sym (choose-true _ _ (le-leb (length s) at h))) w
 
   pub breaks : at < length s → Wrote o p (badLine at) o′ r → Wrote o p (closingIn s at n rs es) o′ r
   unfolding closingIn

@@ -5,13 +5,14 @@ ghost use lib.ListN.{length, take, drop};
 ghost use Rattle.io.specs.Counts.{Counts};
 ghost use Rattle.octets.specs.Written.{Wrote};
 ghost use Rattle.trails.specs.Trail.{trailOf, trailUnder, room};
-use first::first_ok;
 use lines::put_bad;
 use octets::limits::longest_first;
 use octets::read::byte_at;
-use run::started;
+use octets::read::length_at;
+use opening::reset_by;
+use rules::Answer;
+use run::events;
 
-mod first;
 mod run;
 
 // The bytes of the lent buffer: at most 5,041 lines of at most 39 bytes and the last line fit.
@@ -26,22 +27,14 @@ pub fn trail(input: &[u8], out: &mut [u8; ROOM]) -> usize
 {
     // Lent as a slice, the array shows the proof how long it is.
     length_of(out);
-    whole(input, out)
+    written(input, out, byte_at(input, 0))
 }
 
 fn length_of(out: &[u8]) -> usize {
     out.len()
 }
 
-// The text, written from the start of the buffer.
-fn whole(input: &[u8], out: &mut [u8; ROOM]) -> usize
-    ensures { λ r. ⌜ Wrote (now (out .entry)) 0 (trailOf (now (input .entry))) (now (out .exit)) r ⌝ }
-    ensures { λ r. ⌜ r < room ⌝ }
-{
-    written(input, out, byte_at(input, 0))
-}
-
-// The text under the version, in the same place.
+// The text under the version, written from the start of the buffer.
 fn written(input: &[u8], out: &mut [u8; ROOM], version: u8) -> usize
     ensures { λ r. ⌜ Wrote (now (out .entry)) 0 (trailUnder version (now (input .entry))) (now (out .exit)) r ⌝ }
     ensures { λ r. ⌜ r < room ⌝ }
@@ -49,8 +42,11 @@ fn written(input: &[u8], out: &mut [u8; ROOM], version: u8) -> usize
     if longest_first(version) < 1 {
         return put_bad(out, 0, 0);
     }
-    if !first_ok(version, input) {
+    let a = reset_by(version, input);
+    if a.number != Answer::ACCEPTED {
         return put_bad(out, 0, 1);
     }
-    started(input, out, version)
+    let s = a.state;
+    let n = length_at(input, 1) as usize;
+    events(input, out, version, s, 3 + n)
 }

@@ -1,16 +1,13 @@
-// From reset to the last line: "reads one event after another until the input ends or a record is bad".
+// From the first event to the last line: "reads one event after another until the input ends or a record is bad".
 ghost use mathlib.Core.Path.{_≡_};
 ghost use Prim.Native.Nat.{_+_, _<_, _≤_};
 ghost use mathlib.Core.Bool.{true};
-ghost use lib.ListN.{take};
-ghost use Rattle.rules.specs.Codes.{nodeLimit};
 ghost use Rattle.rules.specs.Tree.{goodTree};
 ghost use Rattle.octets.specs.Prefixed.{window, reach};
 ghost use Rattle.octets.specs.Written.{Wrote};
 ghost use Rattle.lines.specs.Lines.{line};
-ghost use Rattle.trails.specs.Trail.{First, room, shortest, firstLength, namesBy, closingIn, eventOf, eventsFrom, startedFrom, resetBy};
+ghost use Rattle.trails.specs.Trail.{room, closingIn, eventOf, eventsFrom};
 use crate::ROOM;
-use crate::first::parents;
 use lines::put_bad;
 use lines::put_end;
 use lines::put_line;
@@ -19,12 +16,9 @@ use octets::limits::PREFIX;
 use octets::limits::reach;
 use octets::read::event_at;
 use octets::read::length_at;
-use octets::read::word_at;
 use parts::act;
 use parts::end_of;
-use parts::name_by;
 use parts::node_of;
-use rules::Answer;
 use rules::Event;
 use rules::State;
 
@@ -47,22 +41,6 @@ fn put_next(out: &mut [u8; ROOM], at: usize, index: u64, ev: Event, number: u8, 
     put_line(out, at, index, ev, number, value)
 }
 
-// The names of the first n nodes; what stands after them says nothing.
-fn names<'a>(
-    n: u8,
-    rights: &'a [u8; State::NODES],
-    entries: &'a [u8; State::CELLS],
-) -> [u8; State::NODES]
-    requires { ⌜ n ≤ nodeLimit ⌝ }
-    ensures { λ r. ⌜ take n r ≡ namesBy (now (rights .entry)) (now (entries .entry)) n ⌝ }
-{
-    let mut names = [0u8; State::NODES];
-    for x in 0..n {
-        names[x as usize] = name_by(rights, entries, x);
-    }
-    names
-}
-
 // The last line: the input ended at `end`, or a bad record stands there. The configuration's arrays are lent, not copied.
 fn put_closing<'a>(
     input: &[u8],
@@ -73,13 +51,11 @@ fn put_closing<'a>(
     rights: &'a [u8; State::NODES],
     entries: &'a [u8; State::CELLS],
 ) -> usize
-    requires { ⌜ n ≤ nodeLimit ⌝ }
     ensures { λ r. ⌜ Wrote (now (out .entry)) at (closingIn (now (input .entry)) end n (now (rights .entry)) (now (entries .entry))) (now (out .exit)) r ⌝ }
     ensures { λ r. ⌜ r ≤ at + 800 ⌝ }
 {
     if end >= input.len() {
-        let codes = names(n, rights, entries);
-        return put_end(out, at, &codes[..n as usize]);
+        return put_end(out, at, n, rights, entries);
     }
     put_bad(out, at, end)
 }
@@ -87,7 +63,7 @@ fn put_closing<'a>(
 // The text of the events from the offset `first` on. The loop breaks with the offset of a bad record, or of the input's end.
 // The configuration stands in its parts and is changed in place: an event copies a node and a link. Its tree is good, so number 1
 // is not looked for at each event.
-fn events(input: &[u8], out: &mut [u8; ROOM], version: u8, start: State, first: usize) -> usize
+pub fn events(input: &[u8], out: &mut [u8; ROOM], version: u8, start: State, first: usize) -> usize
     requires { ⌜ goodTree start ≡ true ⌝ }
     requires { ⌜ 12 ≤ first ⌝ }
     requires { ⌜ first ≤ reach (now input) ⌝ }
@@ -150,29 +126,4 @@ fn events(input: &[u8], out: &mut [u8; ROOM], version: u8, start: State, first: 
         at = at + RECORD;
     };
     put_closing(input, out, p, end, count, &rights, &entries)
-}
-
-// Reset, as the first record asks for it.
-fn reset_by(input: &[u8]) -> Answer
-    requires { ⌜ shortest ≤ firstLength (now input) ⌝ }
-    requires { ⌜ firstLength (now input) ≤ nodeLimit + 7 ⌝ }
-    ensures { λ r. ⌜ r ≡ resetBy (now (input .entry)) ⌝ }
-{
-    let count = length_at(input, 1) as usize - 7;
-    start::started(count as u8, parents(input, count), word_at(input, 3))
-}
-
-// The text after a good first record: reset, then the events.
-pub fn started(input: &[u8], out: &mut [u8; ROOM], version: u8) -> usize
-    requires { ⌜ First version (now input) ⌝ }
-    ensures { λ r. ⌜ Wrote (now (out .entry)) 0 (startedFrom version (now (input .entry)) (resetBy (now (input .entry)))) (now (out .exit)) r ⌝ }
-    ensures { λ r. ⌜ r < room ⌝ }
-{
-    let a = reset_by(input);
-    if a.number != Answer::ACCEPTED {
-        return put_bad(out, 0, 1);
-    }
-    let s = a.state;
-    let n = length_at(input, 1) as usize;
-    events(input, out, version, s, 3 + n)
 }

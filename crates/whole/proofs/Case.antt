@@ -22,8 +22,9 @@ use Rattle.rules.specs.Step.{treeParent, treeParents, startOf, resetOf, endOf, 
 use Rattle.octets.specs.BigEndian.{number, bytesOf}
 use Rattle.octets.specs.Fields.{flagByte, eventAt}
 use Rattle.octets.specs.Versions.{longestFirst}
-use Rattle.lines.specs.Lines.{spelled, field, asked, line, nameText, endLine, badLine}
-use Rattle.trails.specs.Trail.{firstOk, parentsOf, recordOk, eventOf, namesBy, closingIn, eventsFrom, resetBy, startedFrom, trailUnder}
+use Rattle.opening.specs.Opening.{firstOk, parentsOf, resetAsked, resetBy}
+use Rattle.lines.specs.Lines.{spelled, field, asked, line, nameText, namesBy, endLine, badLine}
+use Rattle.trails.specs.Trail.{recordOk, eventOf, closingIn, eventsFrom, startedFrom, trailUnder}
 use mathlib.Core.List.{flatMap}
 -- End of print.
 use Rattle.lines.specs.Lines.{ascii}
@@ -69,5 +70,5 @@ pub cases : (trailOf wholeCase ≡ printed)
     × (trailOf (broken (0 ∷ [])) ≡ breaks)
     × (trailOf (broken (take 12 (event 1 1 0 0))) ≡ breaks)
     × (trailOf (broken (0 ∷ 12 ∷ 1 ∷ 1 ∷ 0 ∷ word 0 ++ (0 ∷ []))) ≡ breaks)
-unfolding all any fill choose treeOk childBy leafIn someIn noneIn othersNoneIn memberIn nameOf carriesUp installs fromTrunk isProbeAck isRelease isGrant carriesDown grantedRights entryFor copyOk serving evicting workOk atLeaf leafOk hasRequester requesterOk childOk probeOk nodeOk upOk downOk linkOk memberOk entryOk pairOk slotsEmpty blank standsOk rightAt configurationOk valueAt dirtyAt dataTaken installed nextPhase phaseAfter settledPhase loadNeeds storeNeeds storeDoes loadMissNeeds loadMissDoes storeMissNeeds storeMissDoes evictNeeds evictDoes held asksFrom sendAcquireNeeds acquireFor sendAcquireDoes acquireFits takeAcquireNeeds purposeFor takeAcquireDoes probedFor sendProbeNeeds capFor sendProbeDoes servesProbes takeProbeNeeds takeProbeDoes probedBy capMet sendProbeAckNeeds capRights fallen carried probeAckFor sendProbeAckDoes dataFits takeProbeAckNeeds takeProbeAckDoes grantFits takeGrantNeeds takeGrantDoes sendGrantAckNeeds confirmed sendGrantAckDoes mayGrant sendGrantNeeds grantFor grantValue sendGrantDoes takeGrantAckNeeds takeGrantAckDoes sendReleaseNeeds releaseFor sendReleaseDoes awaits takeReleaseNeeds takeReleaseDoes sendReleaseAckNeeds sendReleaseAckDoes takeReleaseAckNeeds takeReleaseAckDoes listed numbered otherFits valueFits placeFits eventOk placeOk treeParent treeParents startOf resetOf endOf linkThere turnOk probedIn nextOf valueOf firstOf answerOf stepOf onwardOf number bytesOf flagByte eventAt longestFirst spelled field asked line nameText endLine badLine firstOk parentsOf recordOk eventOf namesBy closingIn eventsFrom resetBy startedFrom trailUnder flatMap
+unfolding all any fill choose treeOk childBy leafIn someIn noneIn othersNoneIn memberIn nameOf carriesUp installs fromTrunk isProbeAck isRelease isGrant carriesDown grantedRights entryFor copyOk serving evicting workOk atLeaf leafOk hasRequester requesterOk childOk probeOk nodeOk upOk downOk linkOk memberOk entryOk pairOk slotsEmpty blank standsOk rightAt configurationOk valueAt dirtyAt dataTaken installed nextPhase phaseAfter settledPhase loadNeeds storeNeeds storeDoes loadMissNeeds loadMissDoes storeMissNeeds storeMissDoes evictNeeds evictDoes held asksFrom sendAcquireNeeds acquireFor sendAcquireDoes acquireFits takeAcquireNeeds purposeFor takeAcquireDoes probedFor sendProbeNeeds capFor sendProbeDoes servesProbes takeProbeNeeds takeProbeDoes probedBy capMet sendProbeAckNeeds capRights fallen carried probeAckFor sendProbeAckDoes dataFits takeProbeAckNeeds takeProbeAckDoes grantFits takeGrantNeeds takeGrantDoes sendGrantAckNeeds confirmed sendGrantAckDoes mayGrant sendGrantNeeds grantFor grantValue sendGrantDoes takeGrantAckNeeds takeGrantAckDoes sendReleaseNeeds releaseFor sendReleaseDoes awaits takeReleaseNeeds takeReleaseDoes sendReleaseAckNeeds sendReleaseAckDoes takeReleaseAckNeeds takeReleaseAckDoes listed numbered otherFits valueFits placeFits eventOk placeOk treeParent treeParents startOf resetOf endOf linkThere turnOk probedIn nextOf valueOf firstOf answerOf stepOf onwardOf number bytesOf flagByte eventAt longestFirst firstOk parentsOf resetAsked resetBy spelled field asked line nameText namesBy endLine badLine recordOk eventOf closingIn eventsFrom startedFrom trailUnder flatMap
 cases = (refl, refl, refl, refl, refl, refl, refl, refl, refl, refl)

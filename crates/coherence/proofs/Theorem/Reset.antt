@@ -18,7 +18,8 @@ use Rattle.rules.specs.declared.State.{State}
 use Rattle.rules.specs.declared.Node.{Node}
 use Rattle.writes.proofs.Accepted.{Tree, tree}
 use Rattle.writes.proofs.Views.{View, view}
-use Rattle.closed.proofs.Reset.{start-tree, start-sized, start-configuration, root-fields, start-link, start-rights, start-fields, start-entry, start-listed, start-waits}
+use Rattle.laws.proofs.ResetTree.{start-tree}
+use Rattle.closed.proofs.Reset.{start-sized, start-configuration, root-fields, start-link, start-rights, start-fields, start-entry, start-listed, start-waits}
 use Rattle.coherence.proofs.Invariant.Clauses.{agrees, exactly, LinkOk, NodeOk, Inv}
 
 -- a link on which nothing happens, below a node with the value u

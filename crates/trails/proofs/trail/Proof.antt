@@ -3,7 +3,7 @@ use borrow.Author.Needs.{needs}
 use mathlib.Core.Path.{_≡_}
 use lib.ListN.{length}
 use Rattle.trails.specs.Trail.{room}
-use Rattle.trails.proofs.Starting.{text-at-start, text-size, rest-stays, text-counts}
+use Rattle.trails.proofs.Starting.{under, text-at-start, text-size, rest-stays, text-counts}
 use Rattle.trails.proofs.trail.Statement.{statement}
 use Rattle.trails.proofs.trail.Tie as tie
 
@@ -16,6 +16,8 @@ trail-spec =
     tie.close (tie.spec
     (λ c κs. search needs)
     (λ c κs. search needs)
-    (λ c. let l = long (c .before .before) in
-    let w = c .whole .ensures in
-    (text-at-start _ _ l (w .1) (w .0), (text-size _ _ l (w .1) (w .0), (rest-stays _ _ l (w .1) (w .0), text-counts _ _ l (w .1) (w .0))))))
+    (λ c κs. search needs)
+    (λ c. let l = long (c .before .before .before) in
+    let w = under _ (c .before .byte-at .ensures) (c .written .ensures .0) in
+    let r = c .written .ensures .1 in
+    (text-at-start _ _ l r w, (text-size _ _ l r w, (rest-stays _ _ l r w, text-counts _ _ l r w)))))

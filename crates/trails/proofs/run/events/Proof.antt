@@ -11,7 +11,7 @@ use lib.ListN.{length, take, drop}
 use Rattle.parts.proofs.Moving.{moves, onward-good}
 use Rattle.octets.specs.Prefixed.{window}
 use Rattle.trails.specs.Trail.{recordSize, recordAt, recordOk, eventsFrom}
-use Rattle.trails.proofs.Running.{Left, more, left-all, byte-more, copied, ended, cut, wrong, whole, turned, counted, closes}
+use Rattle.trails.proofs.Running.{Left, more, left-all, byte-more, copied, ended, cut, wrong, whole, turned, closes}
 use Rattle.trails.proofs.run.events.Statement.{statement}
 use Rattle.trails.proofs.run.events.Tie as tie
 
@@ -140,7 +140,7 @@ events-spec =
       search needs,
       turned _ (given t) (t .events .at) _ _ (t .events .inv .4) (search needs) q ok (e .event .ensures) g (c .put-next .ensures .0),
     ))
-    (λ c κs. let j = c .before .before .before in let b = begun (j .before) in counted (b .args .start) (b .pre .0))
+    (λ c κs. search needs)
     (λ c. let j = c .before .before .before .before in
     let g = stopped j in
     (closes _ _ _ _ _ _ (j .before .events .inv .4) (g .0) (g .1) (c .put-closing .ensures .0), search needs)))

@@ -1,7 +1,7 @@
 -- `put_closing` meets its contract: the last line is `end` or `bad P`.
 use borrow.Author.Needs.{needs}
 use Rattle.lines.proofs.Composing.{end-near, bad-near}
-use Rattle.trails.proofs.Running.{names-count, names-few, ends, breaks}
+use Rattle.trails.proofs.Running.{ends, breaks}
 use Rattle.trails.proofs.run.put_closing.Statement.{statement}
 use Rattle.trails.proofs.run.put_closing.Tie as tie
 
@@ -9,9 +9,6 @@ pub put-closing-spec : {M : Type 1} → statement M
 put-closing-spec =
     tie.close (tie.spec
     (λ c κs. search needs)
-    (λ c. search needs)
-    (λ c. names-count _ _ _ (c .before .before .names .ensures))
-    (λ c κs. search needs)
-    (λ c. (search (ends), search (end-near, names-few)))
+    (λ c. (search (ends), search (end-near, needs)))
     (λ c κs. search needs)
     (λ c. (search (breaks), search (bad-near, needs))))

@@ -7,9 +7,9 @@ use Rattle.words.specs.Vocab.{fill}
 use Rattle.words.proofs.Meeting.{loops}
 use Rattle.rules.specs.Codes.{nodeLimit}
 use Rattle.octets.specs.BigEndian.{byte}
-use Rattle.trails.specs.Trail.{parentsOf}
-use Rattle.trails.proofs.first.parents.Statement.{statement}
-use Rattle.trails.proofs.first.parents.Tie as tie
+use Rattle.opening.specs.Opening.{parentsOf}
+use Rattle.opening.proofs.parents.Statement.{statement}
+use Rattle.opening.proofs.parents.Tie as tie
 
 abbrev Inv-loop : tie.InvT-loop
 Inv-loop s n ps₀ k₀ k-end ps k = (k ≤ n - 1) × (ps ≡ fill (λ j. byte s (11 + j)) 1 k (replicate nodeLimit 0))

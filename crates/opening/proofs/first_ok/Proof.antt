@@ -1,8 +1,8 @@
 -- `first_ok` meets its contract: each test is a clause of the definition.
 use borrow.Author.Needs.{needs}
-use Rattle.trails.proofs.Starting.{firsts}
-use Rattle.trails.proofs.first.first_ok.Statement.{statement}
-use Rattle.trails.proofs.first.first_ok.Tie as tie
+use Rattle.opening.proofs.Opened.{firsts}
+use Rattle.opening.proofs.first_ok.Statement.{statement}
+use Rattle.opening.proofs.first_ok.Tie as tie
 
 pub first-ok-spec : {M : Type 1} → statement M
 first-ok-spec =

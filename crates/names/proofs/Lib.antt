@@ -1,0 +1,2 @@
+-- What the code of a name meets.
+pub mod Naming
