@@ -16,7 +16,7 @@ const ONWARD: u8 = 3;
 // More requests than an input can hold: a loop has to end.
 const REQUESTS: u64 = 1000000000000;
 
-fn written(a: Answer) -> bool {
+fn answer_sent(a: Answer) -> bool {
     let c = a.config;
     let s = c.state;
     let bytes = records::answer_bytes(a.number, a.value, s);
@@ -30,7 +30,7 @@ fn reset_answered() -> bool {
     }
     let parents = records::parents_of(&bytes);
     let first = records::first_of(&bytes);
-    written(Config::reset(bytes[0], parents, first))
+    answer_sent(Config::reset(bytes[0], parents, first))
 }
 
 fn step_answered(kind: u8) -> bool {
@@ -49,12 +49,12 @@ fn step_answered(kind: u8) -> bool {
     let c = Config { state: s };
     let ev = octets::read::event_at(&tail, 0);
     if kind == STEP {
-        return written(c.step(ev));
+        return answer_sent(c.step(ev));
     }
-    written(c.onward(ev))
+    answer_sent(c.onward(ev))
 }
 
-fn answered() -> bool {
+fn request_answered() -> bool {
     let mut first = [0u8; 1];
     if io::read_full(STDIN_FILENO, &mut first) < 1 {
         return false;
@@ -72,7 +72,7 @@ fn answered() -> bool {
 fn main() {
     let mut i: u64 = 0;
     while i < REQUESTS {
-        if !answered() {
+        if !request_answered() {
             return;
         }
         i += 1;

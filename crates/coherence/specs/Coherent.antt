@@ -16,7 +16,7 @@ saysRights e r = (eqb e none && eqb r rightsN) || (eqb e branch && eqb r rightsB
 
 pub record Coherent (s : State) (v : ℕ) : Type 0 where
   -- "a node in TT is the only readable node of the tree"
-  pub sole : (x y : ℕ) → x < s .count → y < s .count → named s x ≡ nameTT → readable s y ≡ true → y ≡ x
+  pub only : (x y : ℕ) → x < s .count → y < s .count → named s x ≡ nameTT → readable s y ≡ true → y ≡ x
   -- "every readable node holds the value of the last accepted store, or the first value"
   pub fresh : (x : ℕ) → x < s .count → readable s x ≡ true → value s x ≡ v
   -- "on every link with five empty slots and all transactions idle at both ends, the parent's entry says the rights that the child holds"

@@ -27,15 +27,15 @@ unfolding firstOk
 first-good v s h =
     let n = firstLength s in
     let m = longestFirst v in
-    let f = both (leb 9 n && leb n m) (leb (3 + n) (reach s)) h in
-    let g = both (leb 9 n) (leb n m) (f .0) in
-    record { low = leb-true 9 n (g .0); high = leb-true n m (g .1); whole = leb-true (3 + n) (reach s) (f .1) }
+    let f = both (leb shortest n && leb n m) (leb (3 + n) (reach s)) h in
+    let g = both (leb shortest n) (leb n m) (f .0) in
+    record { low = leb-true shortest n (g .0); high = leb-true n m (g .1); whole = leb-true (3 + n) (reach s) (f .1) }
 
 good-first : (v : ℕ) (s : List ℕ) → First v s → firstOk v s ≡ true
 unfolding firstOk
 good-first v s f =
     let n = firstLength s in
-    rw (le-leb 9 n (f .low), le-leb n (longestFirst v) (f .high)) (le-leb (3 + n) (reach s) (f .whole))
+    rw (le-leb shortest n (f .low), le-leb n (longestFirst v) (f .high)) (le-leb (3 + n) (reach s) (f .whole))
 
 not-first : (v : ℕ) (s : List ℕ) → (First v s → ⊥) → false ≡ firstOk v s
 not-first v s h = go (decided (firstOk v s))
@@ -48,13 +48,13 @@ not-first v s h = go (decided (firstOk v s))
 pub cut-first : (v : ℕ) (s : List ℕ) {l : ℕ} → l ≡ reach s → l < 3 → false ≡ firstOk v s
 cut-first v s e h = not-first v s (λ f. omega (arith, f .whole))
 
-pub low-first : (v : ℕ) (s : List ℕ) {n : ℕ} → n ≡ firstLength s → n < 9 → false ≡ firstOk v s
+pub low-first : (v : ℕ) (s : List ℕ) {n : ℕ} → n ≡ firstLength s → n < shortest → false ≡ firstOk v s
 low-first v s e h = not-first v s (λ f. omega (arith, f .low))
 
 pub high-first : (v : ℕ) (s : List ℕ) {n m : ℕ} → n ≡ firstLength s → m ≡ longestFirst v → m < n → false ≡ firstOk v s
 high-first v s e g h = not-first v s (λ f. omega (arith, f .high))
 
-pub fit-first : (v : ℕ) (s : List ℕ) {l n m : ℕ} → l ≡ reach s → 3 ≤ l → n ≡ firstLength s → 9 ≤ n → m ≡ longestFirst v → n ≤ m → leb n (l - 3) ≡ firstOk v s
+pub fit-first : (v : ℕ) (s : List ℕ) {l n m : ℕ} → l ≡ reach s → 3 ≤ l → n ≡ firstLength s → shortest ≤ n → m ≡ longestFirst v → n ≤ m → leb n (l - 3) ≡ firstOk v s
 fit-first v s {l} {n} {m} e three f low g high = go (decLt (l - 3) n)
   where
     go : Dec (l - 3 < n) → leb n (l - 3) ≡ firstOk v s
@@ -67,14 +67,14 @@ pub ruleset firsts = (cut-first, low-first, high-first, fit-first, arith)
 
 -- a good first record is long enough for a parent, and names no more nodes than the limit
 module _ (v : ℕ) (s : List ℕ) {b : Bool} (e : b ≡ firstOk v s) (t : b ≡ true) where
-  good : First v s
-  good = first-good v s (sym e ∙ t)
+  is-first : First v s
+  is-first = first-good v s (sym e ∙ t)
 
   pub some-node : shortest ≤ firstLength s
-  some-node = good .low
+  some-node = is-first .low
 
   pub few-nodes : firstLength s ≤ nodeLimit + 7
-  few-nodes = omega (arith, good .high, longest-fits v)
+  few-nodes = omega (arith, is-first .high, longest-fits v)
 
 -- what reset answers, by what the code handed it
 pub reset-asked : (s : List ℕ) {n v : ℕ} {ps : List ℕ} {a : Answer} → n ≡ countOf s → ps ≡ parentsOf s n → v ≡ firstValue s → a ≡ resetOf n ps v → a ≡ resetAsked s
@@ -87,8 +87,8 @@ no-tree = refl
 
 -- reset that answers 0 had a good first record, and gives a good tree
 module _ (v : ℕ) (s : List ℕ) {a : Answer} (e : a ≡ resetBy v s) (n : a .number ≡ accepts) where
-  answered : resetBy v s .number ≡ accepts
-  answered = subst (λ (x : Answer). x .number ≡ accepts) e n
+  resets : resetBy v s .number ≡ accepts
+  resets = subst (λ (x : Answer). x .number ≡ accepts) e n
 
   pub opened-first : First v s
   unfolding resetBy
@@ -96,11 +96,11 @@ module _ (v : ℕ) (s : List ℕ) {a : Answer} (e : a ≡ resetBy v s) (n : a .n
     where
       go : (firstOk v s ≡ true) ⊎ (firstOk v s ≡ false) → First v s
       go (inl t) = first-good v s t
-      go (inr t) = absurd (omega (arith, no-tree, rw (choose-false _ _ t) at answered))
+      go (inr t) = absurd (omega (arith, no-tree, rw (choose-false _ _ t) at resets))
 
   pub opened-tree : goodTree (a .state) ≡ true
   unfolding resetBy resetAsked
   opened-tree =
       let t = good-first v s opened-first in
       subst⁻¹ (λ (x : Answer). goodTree (x .state) ≡ true) (e ∙ choose-true _ _ t)
-      (reset-tree (countOf s) (parentsOf s (countOf s)) (firstValue s) (subst (λ (x : Answer). x .number ≡ accepts) (choose-true _ _ t) answered))
+      (reset-tree (countOf s) (parentsOf s (countOf s)) (firstValue s) (subst (λ (x : Answer). x .number ≡ accepts) (choose-true _ _ t) resets))

@@ -186,7 +186,7 @@ fn act_at(
             link: l,
         };
     }
-    let value = table::answered(v, ev.kind);
+    let value = table::said(v, ev.kind);
     let w = table::done(v, ev);
     let node = land(
         rights,

@@ -43,7 +43,7 @@ pub fn done(v: Scene, ev: Event) -> Scene
 }
 
 // "The answer value is the load's, else 0."
-pub fn answered(v: Scene, kind: u8) -> u64
+pub fn said(v: Scene, kind: u8) -> u64
     ensures { λ r. ⌜ r ≡ kindOf kind .says v ⌝ }
 {
     let m = v.node;

@@ -14,6 +14,7 @@ use Rattle.rules.specs.Step.{onwardOf}
 use Rattle.rules.specs.declared.State.{State}
 use Rattle.rules.specs.declared.Event.{Event}
 use Rattle.rules.specs.declared.Answer.{Answer}
+use Rattle.octets.specs.Fields.{eventSize}
 use Rattle.octets.specs.Prefixed.{window, reach, lengthAt}
 use Rattle.octets.specs.Written.{Wrote}
 use Rattle.octets.proofs.BytesWritten.{wrote-then, wrote-same}
@@ -42,18 +43,18 @@ cut s at k h l = rw (lt-leb (at + recordSize) (reach s) (omega arith))
 pub ended : (s : List ℕ) (at : ℕ) → length s ≤ at → recordOk s at ≡ false
 ended s at h = cut s at 0 (omega arith) (omega arith)
 
-pub wrong : (s : List ℕ) (at : ℕ) {r : List ℕ} {v : ℕ} → r ≡ recordAt s at → v ≡ lengthAt r 0 → (v ≡ 11 → ⊥) → recordOk s at ≡ false
+pub wrong : (s : List ℕ) (at : ℕ) {r : List ℕ} {v : ℕ} → r ≡ recordAt s at → v ≡ lengthAt r 0 → (v ≡ eventSize → ⊥) → recordOk s at ≡ false
 unfolding recordOk
 wrong s at {r} {v} e f n =
     let g : lengthAt (recordAt s at) 0 ≡ v = rw (← e) (sym f) in
-    and-no (leb (at + recordSize) (reach s)) (eqb (lengthAt (recordAt s at) 0) 11) (rw g (ne-eqb v 11 n))
+    and-no (leb (at + recordSize) (reach s)) (eqb (lengthAt (recordAt s at) 0) eventSize) (rw g (ne-eqb v eventSize n))
 
 -- where one stands
-pub whole : (s : List ℕ) (at : ℕ) {r : List ℕ} {v : ℕ} → r ≡ recordAt s at → v ≡ lengthAt r 0 → v ≡ 11 → at + recordSize ≤ reach s → recordOk s at ≡ true
+pub whole : (s : List ℕ) (at : ℕ) {r : List ℕ} {v : ℕ} → r ≡ recordAt s at → v ≡ lengthAt r 0 → v ≡ eventSize → at + recordSize ≤ reach s → recordOk s at ≡ true
 unfolding recordOk
 whole s at {r} {v} e f g h =
-    let q : lengthAt (recordAt s at) 0 ≡ 11 = rw (← e) (sym f ∙ g) in
-    rw (le-leb (at + recordSize) (reach s) h) (eq-eqb (lengthAt (recordAt s at) 0) 11 q)
+    let q : lengthAt (recordAt s at) 0 ≡ eventSize = rw (← e) (sym f ∙ g) in
+    rw (le-leb (at + recordSize) (reach s) h) (eq-eqb (lengthAt (recordAt s at) 0) eventSize q)
 
 -- the record that is copied out of the input, and a byte more of it
 pub copied : (s r : List ℕ) (at k : ℕ) → length r ≡ recordSize → recordSize ≤ k → k ≤ recordSize → take k r ≡ take k (drop at s) → r ≡ recordAt s at

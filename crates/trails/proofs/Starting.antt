@@ -32,9 +32,9 @@ module _ {m : ℕ} (v : ℕ) (s : List ℕ) (e : m ≡ longestFirst v) where
   unfolding trailUnder
   unversioned h = let t : known v ≡ false = rw (← e) (lt-leb 1 m h) in choose-true _ _ (ap not t)
 
-  begun : {a : Answer} → 1 ≤ m → a ≡ resetBy v s → trailUnder v s ≡ startedFrom v s a
+  versioned : {a : Answer} → 1 ≤ m → a ≡ resetBy v s → trailUnder v s ≡ startedFrom v s a
   unfolding trailUnder
-  begun h f = let t : known v ≡ true = rw (← e) (le-leb 1 m h) in choose-false _ _ (ap not t) ∙ rw f
+  versioned h f = let t : known v ≡ true = rw (← e) (le-leb 1 m h) in choose-false _ _ (ap not t) ∙ rw f
 
 module _ {o o′ : List ℕ} {r m : ℕ} (v : ℕ) (s : List ℕ) (e : m ≡ longestFirst v) where
   pub no-version : m < 1 → Wrote o 0 (badLine 0) o′ r → Wrote o 0 (trailUnder v s) o′ r
@@ -42,11 +42,11 @@ module _ {o o′ : List ℕ} {r m : ℕ} (v : ℕ) (s : List ℕ) (e : m ≡ lon
 
   pub no-first : {a : Answer} → 1 ≤ m → a ≡ resetBy v s → (a .number ≡ accepts → ⊥) → Wrote o 0 (badLine 1) o′ r → Wrote o 0 (trailUnder v s) o′ r
   unfolding startedFrom
-  no-first {a} h f n w = wrote-same (sym (begun v s e h f ∙ choose-false _ _ (ne-eqb (a .number) accepts n))) w
+  no-first {a} h f n w = wrote-same (sym (versioned v s e h f ∙ choose-false _ _ (ne-eqb (a .number) accepts n))) w
 
   pub with-first : {n : ℕ} {a : Answer} → 1 ≤ m → a ≡ resetBy v s → a .number ≡ accepts → n ≡ firstLength s → Wrote o 0 (eventsFrom v window s (3 + n) 1 (a .state)) o′ r → Wrote o 0 (trailUnder v s) o′ r
   unfolding startedFrom
-  with-first {n} {a} h f t g w = wrote-same (sym (begun v s e h f ∙ choose-true _ _ (eq-eqb (a .number) accepts t))) (rw g at w)
+  with-first {n} {a} h f t g w = wrote-same (sym (versioned v s e h f ∙ choose-true _ _ (eq-eqb (a .number) accepts t))) (rw g at w)
 
 pub under : {o o′ : List ℕ} {r v : ℕ} (s : List ℕ) → v ≡ versionOf s → Wrote o 0 (trailUnder v s) o′ r → Wrote o 0 (trailOf s) o′ r
 under s e w = rw e at w

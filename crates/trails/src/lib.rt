@@ -27,7 +27,7 @@ pub fn trail(input: &[u8], out: &mut [u8; ROOM]) -> usize
 {
     // Lent as a slice, the array shows the proof how long it is.
     length_of(out);
-    written(input, out, byte_at(input, 0))
+    trail_under(input, out, byte_at(input, 0))
 }
 
 fn length_of(out: &[u8]) -> usize {
@@ -35,7 +35,7 @@ fn length_of(out: &[u8]) -> usize {
 }
 
 // The text under the version, written from the start of the buffer.
-fn written(input: &[u8], out: &mut [u8; ROOM], version: u8) -> usize
+fn trail_under(input: &[u8], out: &mut [u8; ROOM], version: u8) -> usize
     ensures { λ r. ⌜ Wrote (now (out .entry)) 0 (trailUnder version (now (input .entry))) (now (out .exit)) r ⌝ }
     ensures { λ r. ⌜ r < room ⌝ }
 {

@@ -40,8 +40,8 @@ empty-slots l h =
 
 module _ {s : State} {v : ℕ} (i : Inv s v) where
   -- "a node in TT is the only readable node of the tree"
-  sole : (x y : ℕ) → x < s .count → y < s .count → named s x ≡ nameTT → readable s y ≡ true → y ≡ x
-  sole x y hx hy e r = go (ℕ-discrete y x)
+  only : (x y : ℕ) → x < s .count → y < s .count → named s x ≡ nameTT → readable s y ≡ true → y ≡ x
+  only x y hx hy e r = go (ℕ-discrete y x)
     where
       neither : (rights s y ≡ rightsN) ⊎ Above s y → (rights s y ≡ rightsB) ⊎ ((rights s y ≡ tip) × ((k : ℕ) → k < nodeLimit → entry s y k ≢ trunk)) → ⊥
       neither (inl a) (inl b) = omega arith
@@ -120,4 +120,4 @@ module _ {s : State} {v : ℕ} (i : Inv s v) where
       says (codes-of i (own-child i k a b)) (and-true _ _ (w .agree) (w .exact)) (empty-slots (link s k) h)
 
   pub inv-coherent : Coherent s v
-  inv-coherent = record { sole = sole; fresh = fresh; quiet = λ k a b h _ _. quiet k a b h }
+  inv-coherent = record { only = only; fresh = fresh; quiet = λ k a b h _ _. quiet k a b h }

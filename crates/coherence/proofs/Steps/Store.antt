@@ -25,8 +25,8 @@ module _ {s : State} {v : ℕ} (i : Inv s v) (e : Event) {x : ℕ} (inside : x <
   abbrev new : ℕ
   new = e .value
 
-  sole : (rights s x ≡ tip) × ((k : ℕ) → k < nodeLimit → entry s x k ≡ none)
-  sole = tt-is i x inside (n .name)
+  tip-alone : (rights s x ≡ tip) × ((k : ℕ) → k < nodeLimit → entry s x k ≡ none)
+  tip-alone = tt-is i x inside (n .name)
 
   own : 0 < x → LinkOk new (ownView s x (rights s x) (stored new (node s x)) (link s x)) x
   own pos =
@@ -39,15 +39,15 @@ module _ {s : State} {v : ℕ} (i : Inv s v) (e : Event) {x : ℕ} (inside : x <
         exact = w .exact;
         copy = λ _ d. absurd (false≢true (sym d));
         granted = w .granted;
-        last = λ _ n. absurd (n (sole .0));
+        last = λ _ n. absurd (n (tip-alone .0));
       }
 
   -- the children have nothing, and no Grant is on its way to them
   below : (k : ℕ) → Child s x k → LinkOk new (childView s k (stored new (node s x)) (entry s x k) (toProbe s x k) (pending s x k) (link s k)) k
-  below k c = below-values i c (λ h. absurd (h (sole .1 k (child-small i c)))) refl refl refl
+  below k c = below-values i c (λ h. absurd (h (tip-alone .1 k (child-small i c)))) refl refl refl
 
   others : (y : ℕ) → y < s .count → y ≢ x → (rights s y ≡ rightsN) ⊎ Above s y
-  others = sole-tip i x inside (sole .0) (sole .1)
+  others = sole-tip i x inside (tip-alone .0) (tip-alone .1)
 
   -- elsewhere no trunk ends
   far-link : (k : ℕ) → 0 < k → k < s .count → k ≢ x → parent s k ≢ x → LinkOk v (view s k) k → LinkOk new (view s k) k

@@ -18,6 +18,6 @@ trail-spec =
     (λ c κs. search needs)
     (λ c κs. search needs)
     (λ c. let l = long (c .before .before .before) in
-    let w = under _ (c .before .byte-at .ensures) (c .written .ensures .0) in
-    let r = c .written .ensures .1 in
+    let w = under _ (c .before .byte-at .ensures) (c .trail-under .ensures .0) in
+    let r = c .trail-under .ensures .1 in
     (text-at-start _ _ l r w, (text-size _ _ l r w, (rest-stays _ _ l r w, text-counts _ _ l r w)))))

@@ -2,12 +2,12 @@ use mathlib.Core.Path.{refl}
 use Rattle.words.specs.Vocab.{choose}
 use Rattle.rules.specs.Table.{numbered}
 use Rattle.choices.proofs.Arms.{says-at, no-kind}
-use Rattle.table.proofs.answered.Statement.{statement}
-use Rattle.table.proofs.answered.Tie as tie
+use Rattle.table.proofs.said.Statement.{statement}
+use Rattle.table.proofs.said.Tie as tie
 
-pub answered-spec : {M : Type 1} → statement M
+pub said-spec : {M : Type 1} → statement M
 unfolding numbered choose
-answered-spec =
+said-spec =
     tie.close (tie.spec
     (λ c. says-at (c .match .keys1) _ refl)
     (λ c. says-at (c .match .keys2) _ refl)
