@@ -1,8 +1,8 @@
 // Reads configurations with events, and resets, and writes the whole answer to each: docs/FORMAT.md, "answer".
 use libc::STDIN_FILENO;
 use libc::STDOUT_FILENO;
-use model::Answer;
 use model::Config;
+use model::Outcome;
 use octets::limits::EVENT;
 use records::layout::Layout;
 
@@ -16,7 +16,7 @@ const ONWARD: u8 = 3;
 // More requests than an input can hold: a loop has to end.
 const REQUESTS: u64 = 1000000000000;
 
-fn answer_sent(a: Answer) -> bool {
+fn answer_sent(a: Outcome) -> bool {
     let c = a.config;
     let s = c.state;
     let bytes = records::answer_bytes(a.number, a.value, s);

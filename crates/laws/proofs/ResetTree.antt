@@ -9,7 +9,7 @@ use borrow.Author.Tests.{ltb-false, le-leb, not-false}
 use lib.ListN.{getD, length, replicate, length-replicate}
 use lib.Dec.{eqb, leb, ltb}
 use Rattle.words.proofs.Facts.{both, and-true, or-left, or-right, by-test, all-at, all-from, getD-fill-at}
-use Rattle.rules.specs.Codes.{nodeLimit, accepts}
+use Rattle.rules.specs.Codes.{nodeLeast, nodeLimit, accepts}
 use Rattle.rules.specs.Tree.{parentOk, treeOk, goodTree}
 use Rattle.rules.specs.Step.{treeParent, treeParents, startOf, resetOf}
 use Rattle.rules.specs.declared.Answer.{Answer}
@@ -25,7 +25,7 @@ parent-at n ps k h =
 parents-tree : (n : ℕ) (ps : List ℕ) → treeOk n ps ≡ true → treeOk n (treeParents n ps) ≡ true
 unfolding treeOk treeParent
 parents-tree n ps h =
-    let u = both (leb 2 n && leb n nodeLimit) _ h in
+    let u = both (leb nodeLeast n && leb n nodeLimit) _ h in
     and-true _ _ (u .0) (all-from (parentOk n (treeParents n ps)) nodeLimit λ k b. rw (parent-at n ps k b) (go k (all-at (parentOk n ps) nodeLimit k (u .1) b)))
   where
     go : (k : ℕ) → parentOk n ps k ≡ true → (eqb k 0 || leb n k || ltb (treeParent n ps k) k) ≡ true

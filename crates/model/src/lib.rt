@@ -3,7 +3,7 @@
 ghost use mathlib.Core.Path.{_≡_};
 ghost use Rattle.rules.specs.Names.{named};
 ghost use Rattle.rules.specs.Step.{resetOf, stepOf, onwardOf};
-ghost use Rattle.model.specs.Answered.{answered};
+ghost use Rattle.model.specs.Outcomes.{outcomeOf};
 use rules::Event;
 use rules::State;
 
@@ -11,17 +11,17 @@ pub struct Config {
     pub state: State,
 }
 
-pub struct Answer {
+pub struct Outcome {
     pub number: u8,
     pub value: u64,
     pub config: Config,
 }
 
-fn answered(a: rules::Answer) -> Answer
-    ensures { λ r. ⌜ r ≡ answered a ⌝ }
+fn outcome_of(a: rules::Answer) -> Outcome
+    ensures { λ r. ⌜ r ≡ outcomeOf a ⌝ }
 {
     let state = a.state;
-    Answer {
+    Outcome {
         number: a.number,
         value: a.value,
         config: Config { state },
@@ -30,29 +30,29 @@ fn answered(a: rules::Answer) -> Answer
 
 impl Config {
     // The configuration of a tree at reset; on a bad tree number 1 and an all-zero record.
-    pub fn reset(count: u8, parents: [u8; State::NODES], first: u64) -> Answer
-        ensures { λ r. ⌜ r ≡ answered (resetOf count parents first) ⌝ }
+    pub fn reset(count: u8, parents: [u8; State::NODES], first: u64) -> Outcome
+        ensures { λ r. ⌜ r ≡ outcomeOf (resetOf count parents first) ⌝ }
     {
         let made = start::started(count, parents, first);
-        answered(made)
+        outcome_of(made)
     }
 
     // The step: numbers 1 to 5, the answer value, and the configuration after it.
-    pub fn step(self, ev: Event) -> Answer
-        ensures { λ r. ⌜ r ≡ answered (stepOf (self .state) ev) ⌝ }
+    pub fn step(self, ev: Event) -> Outcome
+        ensures { λ r. ⌜ r ≡ outcomeOf (stepOf (self .state) ev) ⌝ }
     {
         let came = self.state;
         let done = engine::stepped(came, ev);
-        answered(done)
+        outcome_of(done)
     }
 
     // The step of a caller whose configuration came from reset by accepted steps: it leaves out the scan for number 2.
-    pub fn onward(self, ev: Event) -> Answer
-        ensures { λ r. ⌜ r ≡ answered (onwardOf (self .state) ev) ⌝ }
+    pub fn onward(self, ev: Event) -> Outcome
+        ensures { λ r. ⌜ r ≡ outcomeOf (onwardOf (self .state) ev) ⌝ }
     {
         let came = self.state;
         let gone = engine::onward(came, ev);
-        answered(gone)
+        outcome_of(gone)
     }
 
     // The name of node x, by its code.

@@ -13,7 +13,7 @@ use lib.Dec.{eqb, leb, ltb}
 use Rattle.words.specs.Vocab.{choose}
 use Rattle.words.proofs.Meeting.{tests}
 use Rattle.words.proofs.Facts.{both, decided, choose-true, choose-false}
-use Rattle.rules.specs.Codes.{nodeLimit, accepts, badTree, notAConfiguration, badEvent, wrongPlace, outOfTurn}
+use Rattle.rules.specs.Codes.{nodeLeast, nodeLimit, accepts, badTree, notAConfiguration, badEvent, wrongPlace, outOfTurn}
 use Rattle.rules.specs.Cells.{node, link}
 use Rattle.rules.specs.Tree.{treeOk, goodTree, childBy}
 use Rattle.rules.specs.Configuration.{configurationOk}
@@ -161,7 +161,7 @@ moves s e {x} {j} p q d =
 -- a good tree is within the node limit
 pub within-limit : (s : State) → goodTree s ≡ true → leb (s .count) nodeLimit ≡ true
 unfolding treeOk
-within-limit s h = both (leb 2 (s .count)) _ (both (leb 2 (s .count) && leb (s .count) nodeLimit) _ h .0) .1
+within-limit s h = both (leb nodeLeast (s .count)) _ (both (leb nodeLeast (s .count) && leb (s .count) nodeLimit) _ h .0) .1
 
 -- the step, by the code's tests one after the other
 module _ (s : State) (e : Event) {a : Answer} where

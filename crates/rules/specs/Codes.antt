@@ -3,6 +3,9 @@
 use Prim.Native.Nat.{ℕ, _*_}
 
 -- "One cache line in a tree of 2 to 16 nodes."
+abbrev pub nodeLeast : ℕ
+nodeLeast = 2
+
 abbrev pub nodeLimit : ℕ
 nodeLimit = 16
 

@@ -5,7 +5,7 @@ use Prim.Native.Nat.{ℕ}
 use lib.ListN.{getD}
 use lib.Dec.{eqb, leb, ltb}
 use Rattle.words.specs.Vocab.{all, any}
-use Rattle.rules.specs.Codes.{nodeLimit}
+use Rattle.rules.specs.Codes.{nodeLeast, nodeLimit}
 use Rattle.rules.specs.declared.State.{State}
 
 -- "every other node's parent has a smaller number": nothing is asked of the root or beyond the last node
@@ -17,7 +17,7 @@ parentOk n ps k = parentBy n (getD ps k 0) k
 
 -- number 1: "node count not 2..16, or, from node 1 upward, a parent not smaller than its node"
 unfoldable pub treeOk : ℕ → List ℕ → Bool
-treeOk n ps = leb 2 n && leb n nodeLimit && all (parentOk n ps) nodeLimit
+treeOk n ps = leb nodeLeast n && leb n nodeLimit && all (parentOk n ps) nodeLimit
 
 -- k is a node of the tree other than the root, and x is its parent p
 unfoldable pub childBy : ℕ → ℕ → ℕ → ℕ → Bool

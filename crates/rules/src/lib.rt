@@ -67,6 +67,9 @@ pub struct State {
 }
 
 impl State {
+    // The fewest nodes of a tree.
+    pub const LEAST: u8 = 2;
+
     // The node limit, and the cells of as many rows.
     pub const NODES: usize = 16;
 

@@ -44,7 +44,7 @@ pub fn tree_ok(count: u8, parents: &[u8; State::NODES]) -> bool
     ensures { λ r. ⌜ r ≡ treeOk count (now (parents .entry)) ⌝ }
 {
     let good = parents_ok(count, parents);
-    (2 <= count) & (count as usize <= State::NODES) & good
+    (State::LEAST <= count) & (count as usize <= State::NODES) & good
 }
 
 // k is a node of the tree other than the root, and x is its parent p

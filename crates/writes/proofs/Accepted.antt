@@ -10,7 +10,7 @@ use lib.ListN.{getD}
 use lib.Dec.{eqb, leb, ltb}
 use Rattle.words.specs.Vocab.{all, choose}
 use Rattle.words.proofs.Facts.{both, all-at, either, by-test}
-use Rattle.rules.specs.Codes.{nodeLimit, accepts}
+use Rattle.rules.specs.Codes.{nodeLeast, nodeLimit, accepts}
 use Rattle.rules.specs.Cells.{node}
 use Rattle.rules.specs.Tree.{parentOk, treeOk, goodTree, isChild}
 use Rattle.rules.specs.Configuration.{configurationOk}
@@ -32,10 +32,10 @@ pub tree : (n : ℕ) (ps : List ℕ) → treeOk n ps ≡ true → Tree n ps
 unfolding treeOk
 tree n ps h = record { least = leb-true _ _ (w .0); most = most; smaller = smaller }
   where
-    u : ((leb 2 n && leb n nodeLimit) ≡ true) × (all (parentOk n ps) nodeLimit ≡ true)
+    u : ((leb nodeLeast n && leb n nodeLimit) ≡ true) × (all (parentOk n ps) nodeLimit ≡ true)
     u = both _ _ h
 
-    w : (leb 2 n ≡ true) × (leb n nodeLimit ≡ true)
+    w : (leb nodeLeast n ≡ true) × (leb n nodeLimit ≡ true)
     w = both _ _ (u .0)
 
     most : n ≤ nodeLimit

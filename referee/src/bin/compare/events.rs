@@ -7,7 +7,7 @@ use referee::event::Event;
 use referee::judge::{judged, named};
 use referee::kinds::{Kind, Other, Row, Value};
 use referee::rules::{Act, Scene};
-use referee::tree::Tree;
+use referee::tree::{Tree, NODES};
 
 /// Every event that numbers 3 and 4 let pass on a tree; stores with value 0.
 pub fn candidates(tree: &Tree) -> Vec<Event> {
@@ -162,12 +162,29 @@ pub fn any(random: &mut Random, tree: &Tree) -> Event {
     event
 }
 
+/// A number that no kind has: next to a kind's, the last, or any.
+fn no_kind(random: &mut Random) -> u8 {
+    let has = |code: u8| Kind::from_code(code).is_some();
+    let none: Vec<u8> = (0..=u8::MAX).filter(|&code| !has(code)).collect();
+    let beside = |code: u8| has(code.saturating_add(1)) || has(code.saturating_sub(1));
+    let edges: Vec<u8> = none
+        .iter()
+        .copied()
+        .filter(|&code| beside(code) || code == u8::MAX)
+        .collect();
+    match random.percent(60) {
+        true => random.pick(&edges),
+        false => random.pick(&none),
+    }
+}
+
 fn damage(random: &mut Random, tree: &Tree, event: &mut Event) {
     let count = tree.count() as u8;
     let anything = random.byte();
-    let places = [0, 1, 2, count - 1, count, 15, 16, 255, anything];
+    let limit = NODES as u8;
+    let places = [0, 1, 2, count - 1, count, limit - 1, limit, 255, anything];
     match random.below(5) {
-        0 => event.kind = random.pick(&[0, 20, 21, 255, anything]),
+        0 => event.kind = no_kind(random),
         1 => event.node = random.pick(&places),
         2 => event.other = random.pick(&places),
         3 => event.value = random.nonzero(),

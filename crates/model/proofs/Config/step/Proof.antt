@@ -1,6 +1,6 @@
 use mathlib.Core.Path.{_∙_, ap}
 use borrow.Author.Needs.{needs}
-use Rattle.model.specs.Answered.{answered}
+use Rattle.model.specs.Outcomes.{outcomeOf}
 use Rattle.model.proofs.Config.step.Statement.{statement}
 use Rattle.model.proofs.Config.step.Tie as tie
 
@@ -9,4 +9,4 @@ step-spec =
     tie.close (tie.spec
     (λ c κs. search needs)
     (λ c κs. search needs)
-    (λ c. c .answered .ensures ∙ ap answered (c .before .stepped .ensures)))
+    (λ c. c .outcome-of .ensures ∙ ap outcomeOf (c .before .stepped .ensures)))
