@@ -1,16 +1,26 @@
 -- The tests of number 2 on the parts of a configuration that they read: code that lends those parts need not copy the rest.
 -- Each is, by its own words, the test of crate rules at a configuration with these parts.
-use mathlib.Core.Bool.{Bool, false, _&&_}
+use mathlib.Core.Bool.{Bool, true, false, not, _&&_}
 use mathlib.Core.List.{List}
-use Prim.Native.Nat.{ℕ}
-use lib.ListN.{getD}
-use Rattle.words.specs.Vocab.{all}
+use Prim.Native.Nat.{ℕ, zero, suc}
+use lib.ListN.{getD, set, replicate}
+use lib.Dec.{eqb, ltb}
+use Rattle.words.specs.Vocab.{all, choose}
 use Rattle.rules.specs.Codes.{nodeLimit}
 use Rattle.rules.specs.Cells.{cell}
 use Rattle.rules.specs.Tree.{childIn, leafIn}
 use Rattle.rules.specs.Configuration.{nodeOk, linkOk, pairOk, standsOk}
 use Rattle.rules.specs.declared.Node.{Node}
 use Rattle.rules.specs.declared.Link.{Link}
+
+-- the flags of the leaves once node k, with the parent p, has been looked at
+unfoldable pub struck : ℕ → ℕ → ℕ → List Bool → List Bool
+struck n p k l = choose (ltb k n && not (eqb k 0) && ltb p nodeLimit) (set l p false) l
+
+-- the flags once the nodes below k have been looked at; at the last, those of the leaves
+unfoldable pub leavesBy : ℕ → List ℕ → ℕ → List Bool
+leavesBy n ps zero = replicate nodeLimit true
+leavesBy n ps (suc k) = struck n (getD ps k 0) k (leavesBy n ps k)
 
 -- ownAt, of a node with rights r and fields m
 abbrev pub ownIn : ℕ → List ℕ → ℕ → ℕ → Node → Bool

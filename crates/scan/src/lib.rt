@@ -3,9 +3,9 @@
 ghost use mathlib.Core.Path.{_≡_};
 ghost use Prim.Native.Nat.{_<_};
 ghost use Rattle.rules.specs.Codes.{nodeLimit};
-ghost use Rattle.rules.specs.Tree.{childBy};
+ghost use Rattle.rules.specs.Tree.{childBy, leafIn};
 ghost use Rattle.rules.specs.Configuration.{copyOk, serving, evicting, workOk, atLeaf, leafOk, hasRequester, requesterOk, childOk, probeOk, nodeOk, upOk, downOk, linkOk, pairOk, slotsEmpty, blank, standsOk, configurationOk};
-ghost use Rattle.scan.specs.Scanned.{ownIn, pairIn, rowIn, rightIn};
+ghost use Rattle.scan.specs.Scanned.{struck, leavesBy, ownIn, pairIn, rowIn, rightIn};
 use choices::messages::carries_down;
 use choices::messages::carries_up;
 use choices::messages::is_probe_ack;
@@ -21,7 +21,6 @@ use rules::codes::Purpose;
 use rules::codes::Rights;
 use trees::child_by;
 use trees::is_child;
-use trees::is_leaf;
 
 // A node's copy of the line: "rights N with dirty set or value not 0, or B with dirty set".
 fn copy_ok(r: u8, dirty: bool, value: u64) -> bool
@@ -276,19 +275,43 @@ fn blank(r: u8, m: Node) -> bool
         & (m.release == 0)
 }
 
-// Where x stands, with the parent p.
+// Where x stands, with the parent p. Of a node of the tree below the root nothing is asked.
 fn stands_ok(count: u8, x: u8, p: u8, r: u8, m: Node, l: Link) -> bool
     ensures { λ res. ⌜ res ≡ standsOk count x p r m l ⌝ }
 {
+    if (0 < x) & (x < count) {
+        return true;
+    }
     let empty = slots_empty(l);
     let bare = blank(r, m);
     (((0 < x) & (x < count)) | ((p == 0) & empty)) & ((x < count) | bare)
 }
 
-fn own_at(count: u8, parents: &[u8; State::NODES], x: u8, r: u8, m: Node) -> bool
+// Node k, with the parent p, is looked at: its parent is no leaf.
+fn strike(leaves: &mut [bool; State::NODES], count: u8, p: u8, k: u8)
+    ensures { λ _. ⌜ now (leaves .exit) ≡ struck count p k (now (leaves .entry)) ⌝ }
+{
+    let i = p as usize;
+    if (k < count) & (k != 0) & (i < State::NODES) {
+        leaves[i] = false;
+    }
+}
+
+// Which nodes are leaves: one look at each node, where `is_leaf` looks at all of them for one.
+fn leaves_of(count: u8, parents: &[u8; State::NODES]) -> [bool; State::NODES]
+    ensures { λ res. ⌜ res ≡ leavesBy count (now (parents .entry)) nodeLimit ⌝ }
+{
+    let mut leaves = [true; State::NODES];
+    for k in 0..State::NODES {
+        strike(&mut leaves, count, parents[k], k as u8);
+    }
+    leaves
+}
+
+fn own_at(count: u8, parents: &[u8; State::NODES], leaf: bool, x: u8, r: u8, m: Node) -> bool
+    requires { ⌜ leaf ≡ leafIn count (now parents) x ⌝ }
     ensures { λ res. ⌜ res ≡ ownIn count (now (parents .entry)) x r m ⌝ }
 {
-    let leaf = is_leaf(count, parents, x);
     let asks = is_child(count, parents, x, m.requester);
     let leaves = is_child(count, parents, x, m.release);
     node_ok(leaf, asks, leaves, r, m)
@@ -300,15 +323,17 @@ fn right_at<'a>(
     entries: &'a [u8; State::CELLS],
     to_probe: &'a [bool; State::CELLS],
     pending: &'a [bool; State::CELLS],
+    leaf: bool,
     x: usize,
     r: u8,
     m: Node,
     l: Link,
 ) -> bool
     requires { ⌜ x < nodeLimit ⌝ }
+    requires { ⌜ leaf ≡ leafIn count (now parents) x ⌝ }
     ensures { λ res. ⌜ res ≡ rightIn count (now (parents .entry)) (now (entries .entry)) (now («to_probe» .entry)) (now (pending .entry)) x r m l ⌝ }
 {
-    let node = own_at(count, parents, x as u8, r, m);
+    let node = own_at(count, parents, leaf, x as u8, r, m);
     let link = link_ok(l);
     let stands = stands_ok(count, x as u8, parents[x], r, m, l);
     let row = row_at(count, parents, entries, to_probe, pending, r, x);
@@ -319,17 +344,20 @@ fn right_at<'a>(
 pub fn configuration_ok(s: State) -> bool
     ensures { λ r. ⌜ r ≡ configurationOk s ⌝ }
 {
+    let leaves = leaves_of(s.count, &s.parents);
     let mut ok = true;
     for x in 0..State::NODES {
         let r = s.rights[x];
         let m = s.nodes[x];
         let l = s.links[x];
+        let leaf = leaves[x];
         let right = right_at(
             s.count,
             &s.parents,
             &s.entries,
             &s.to_probe,
             &s.pending,
+            leaf,
             x,
             r,
             m,
