@@ -3,7 +3,7 @@
 ghost use mathlib.Core.Path.{_≡_};
 ghost use Prim.Native.Nat.{_<_};
 ghost use Rattle.rules.specs.Codes.{nodeLimit};
-ghost use Rattle.rules.specs.Tree.{childBy, leafIn};
+ghost use Rattle.rules.specs.Tree.{childBy, childIn, leafIn};
 ghost use Rattle.rules.specs.Configuration.{copyOk, serving, evicting, workOk, atLeaf, leafOk, hasRequester, requesterOk, childOk, probeOk, nodeOk, upOk, downOk, linkOk, pairOk, slotsEmpty, blank, standsOk, configurationOk};
 ghost use Rattle.scan.specs.Scanned.{struck, leavesBy, ownIn, pairIn, rowIn, rightIn};
 use choices::messages::carries_down;
@@ -308,12 +308,22 @@ fn leaves_of(count: u8, parents: &[u8; State::NODES]) -> [bool; State::NODES]
     leaves
 }
 
+// No child, or a child of x. Most nodes have none, and then their parents are not looked at.
+fn child_at(count: u8, parents: &[u8; State::NODES], x: u8, q: u8) -> bool
+    ensures { λ r. ⌜ r ≡ childOk q (childIn count (now (parents .entry)) x q) ⌝ }
+{
+    if q == Child::NONE {
+        return true;
+    }
+    is_child(count, parents, x, q)
+}
+
 fn own_at(count: u8, parents: &[u8; State::NODES], leaf: bool, x: u8, r: u8, m: Node) -> bool
     requires { ⌜ leaf ≡ leafIn count (now parents) x ⌝ }
     ensures { λ res. ⌜ res ≡ ownIn count (now (parents .entry)) x r m ⌝ }
 {
-    let asks = is_child(count, parents, x, m.requester);
-    let leaves = is_child(count, parents, x, m.release);
+    let asks = child_at(count, parents, x, m.requester);
+    let leaves = child_at(count, parents, x, m.release);
     node_ok(leaf, asks, leaves, r, m)
 }
 
