@@ -24,7 +24,7 @@ use Rattle.rules.specs.declared.Answer.{Answer}
 
 -- the tree is good
 pub record Tree (n : ℕ) (ps : List ℕ) : Type 0 where
-  pub least : 2 ≤ n
+  pub least : nodeLeast ≤ n
   pub most : n ≤ nodeLimit
   pub smaller : (k : ℕ) → 0 < k → k < n → getD ps k 0 < k
 
