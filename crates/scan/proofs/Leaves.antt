@@ -15,7 +15,7 @@ use Rattle.words.specs.Vocab.{any, choose}
 use Rattle.words.proofs.Facts.{by-test}
 use Rattle.rules.specs.Codes.{nodeLimit}
 use Rattle.rules.specs.Tree.{childBy, childIn, leafIn}
-use Rattle.scan.specs.Scanned.{struck, leavesBy}
+use Rattle.scan.specs.Scanned.{struck, leafFlags}
 
 -- a look at a node with the parent p, which is a node of the tree but the root if a holds, changes the flag of p alone
 look : (a : Bool) (p x : ℕ) (l : List Bool) (d : Bool) → length l ≡ nodeLimit → x < nodeLimit → getD (choose (a && ltb p nodeLimit) (set l p false) l) x d ≡ (getD l x d && not (a && eqb p x))
@@ -31,34 +31,34 @@ look true p x l d h m = go (ℕ-discrete p x)
         let q : x ≢ p = λ e. o (sym e) in
         rw (ne-eqb p x o) (by-test (λ t. getD t x d ≡ getD l x d) (ltb p nodeLimit) (set l p false) l (λ t. getD-set-other l p x false d q) (λ t. refl) ∙ sym (and-true (getD l x d)))
 
-flags : (n : ℕ) (ps : List ℕ) (k : ℕ) → length (leavesBy n ps k) ≡ nodeLimit
-unfolding leavesBy struck
-flags n ps zero = length-replicate nodeLimit true
-flags n ps (suc k) =
-    by-test (λ t. length t ≡ nodeLimit) _ (set (leavesBy n ps k) (getD ps k 0) false) (leavesBy n ps k) (λ t. length-set (leavesBy n ps k) (getD ps k 0) false ∙ flags n ps k) (λ t. flags n ps k)
+flags-long : (n : ℕ) (ps : List ℕ) (k : ℕ) → length (leafFlags n ps k) ≡ nodeLimit
+unfolding leafFlags struck
+flags-long n ps zero = length-replicate nodeLimit true
+flags-long n ps (suc k) =
+    by-test (λ t. length t ≡ nodeLimit) _ (set (leafFlags n ps k) (getD ps k 0) false) (leafFlags n ps k) (λ t. length-set (leafFlags n ps k) (getD ps k 0) false ∙ flags-long n ps k) (λ t. flags-long n ps k)
 
 -- de Morgan
 not-or : (a b : Bool) → (not a && not b) ≡ not (a || b)
 not-or true b = refl
 not-or false b = refl
 
-looked : (n : ℕ) (ps : List ℕ) (x k : ℕ) (d : Bool) → x < nodeLimit → getD (leavesBy n ps k) x d ≡ not (any (childIn n ps x) k)
-unfolding leavesBy struck childBy any
+looked : (n : ℕ) (ps : List ℕ) (x k : ℕ) (d : Bool) → x < nodeLimit → getD (leafFlags n ps k) x d ≡ not (any (childIn n ps x) k)
+unfolding leafFlags struck childBy any
 looked n ps x zero d m = getD-replicate nodeLimit x true d m
 looked n ps x (suc k) d m =
-    look (ltb k n && not (eqb k 0)) (getD ps k 0) x (leavesBy n ps k) d (flags n ps k) m
+    look (ltb k n && not (eqb k 0)) (getD ps k 0) x (leafFlags n ps k) d (flags-long n ps k) m
     ∙ ap (λ t. t && not (childIn n ps x k)) (looked n ps x k d m)
     ∙ not-or (any (childIn n ps x) k) (childIn n ps x k)
 
 -- the loop over the nodes: a look more, and the last
-pub look-next : (n : ℕ) (ps : List ℕ) (k : ℕ) {l m : List Bool} → l ≡ leavesBy n ps k → m ≡ struck n (getD ps k 0) k l → m ≡ leavesBy n ps (k + 1)
-unfolding leavesBy
+pub look-next : (n : ℕ) (ps : List ℕ) (k : ℕ) {l m : List Bool} → l ≡ leafFlags n ps k → m ≡ struck n (getD ps k 0) k l → m ≡ leafFlags n ps (k + 1)
+unfolding leafFlags
 look-next n ps k p q = rw (add-one, ← p) q
 
-pub look-last : (n : ℕ) (ps : List ℕ) {k : ℕ} {l : List Bool} → k ≤ nodeLimit → nodeLimit ≤ k → l ≡ leavesBy n ps k → l ≡ leavesBy n ps nodeLimit
+pub look-last : (n : ℕ) (ps : List ℕ) {k : ℕ} {l : List Bool} → k ≤ nodeLimit → nodeLimit ≤ k → l ≡ leafFlags n ps k → l ≡ leafFlags n ps nodeLimit
 look-last n ps {k} h m p = let e : k ≡ nodeLimit = omega arith in rw e at p
 
 -- the flag of x once every node has been looked at
-pub leaf-flag : (n : ℕ) (ps : List ℕ) {x : ℕ} (d : Bool) {l : List Bool} → l ≡ leavesBy n ps nodeLimit → x < nodeLimit → getD l x d ≡ leafIn n ps x
+pub leaf-flag : (n : ℕ) (ps : List ℕ) {x : ℕ} (d : Bool) {l : List Bool} → l ≡ leafFlags n ps nodeLimit → x < nodeLimit → getD l x d ≡ leafIn n ps x
 unfolding leafIn
 leaf-flag n ps {x} d p m = rw p (looked n ps x nodeLimit d m)

@@ -13,14 +13,14 @@ use Rattle.rules.specs.Configuration.{nodeOk, linkOk, pairOk, standsOk}
 use Rattle.rules.specs.declared.Node.{Node}
 use Rattle.rules.specs.declared.Link.{Link}
 
--- the flags of the leaves once node k, with the parent p, has been looked at
+-- the flags of the leaves once node k, with the parent p, has been looked at: p is struck off
 unfoldable pub struck : ℕ → ℕ → ℕ → List Bool → List Bool
 struck n p k l = choose (ltb k n && not (eqb k 0) && ltb p nodeLimit) (set l p false) l
 
 -- the flags once the nodes below k have been looked at; at the last, those of the leaves
-unfoldable pub leavesBy : ℕ → List ℕ → ℕ → List Bool
-leavesBy n ps zero = replicate nodeLimit true
-leavesBy n ps (suc k) = struck n (getD ps k 0) k (leavesBy n ps k)
+unfoldable pub leafFlags : ℕ → List ℕ → ℕ → List Bool
+leafFlags n ps zero = replicate nodeLimit true
+leafFlags n ps (suc k) = struck n (getD ps k 0) k (leafFlags n ps k)
 
 -- ownAt, of a node with rights r and fields m
 abbrev pub ownIn : ℕ → List ℕ → ℕ → ℕ → Node → Bool

@@ -5,7 +5,7 @@ ghost use Prim.Native.Nat.{_<_};
 ghost use Rattle.rules.specs.Codes.{nodeLimit};
 ghost use Rattle.rules.specs.Tree.{childBy, childIn, leafIn};
 ghost use Rattle.rules.specs.Configuration.{copyOk, serving, evicting, workOk, atLeaf, leafOk, hasRequester, requesterOk, childOk, probeOk, nodeOk, upOk, downOk, linkOk, pairOk, slotsEmpty, blank, standsOk, configurationOk};
-ghost use Rattle.scan.specs.Scanned.{struck, leavesBy, ownIn, pairIn, rowIn, rightIn};
+ghost use Rattle.scan.specs.Scanned.{struck, leafFlags, ownIn, pairIn, rowIn, rightIn};
 use choices::messages::carries_down;
 use choices::messages::carries_up;
 use choices::messages::is_probe_ack;
@@ -284,36 +284,36 @@ fn stands_ok(count: u8, x: u8, p: u8, r: u8, m: Node, l: Link) -> bool
     }
     let empty = slots_empty(l);
     let bare = blank(r, m);
-    (((0 < x) & (x < count)) | ((p == 0) & empty)) & ((x < count) | bare)
+    (p == 0) & empty & ((x < count) | bare)
 }
 
-// Node k, with the parent p, is looked at: its parent is no leaf.
-fn strike(leaves: &mut [bool; State::NODES], count: u8, p: u8, k: u8)
-    ensures { λ _. ⌜ now (leaves .exit) ≡ struck count p k (now (leaves .entry)) ⌝ }
+// Node k, with the parent p, is looked at: its parent is struck off the leaves.
+fn strike(flags: &mut [bool; State::NODES], count: u8, p: u8, k: u8)
+    ensures { λ _. ⌜ now (flags .exit) ≡ struck count p k (now (flags .entry)) ⌝ }
 {
     let i = p as usize;
     if (k < count) & (k != 0) & (i < State::NODES) {
-        leaves[i] = false;
+        flags[i] = false;
     }
 }
 
 // Which nodes are leaves: one look at each node, where `is_leaf` looks at all of them for one.
-fn leaves_of(count: u8, parents: &[u8; State::NODES]) -> [bool; State::NODES]
-    ensures { λ res. ⌜ res ≡ leavesBy count (now (parents .entry)) nodeLimit ⌝ }
+fn leaf_flags(count: u8, parents: &[u8; State::NODES]) -> [bool; State::NODES]
+    ensures { λ res. ⌜ res ≡ leafFlags count (now (parents .entry)) nodeLimit ⌝ }
 {
-    let mut leaves = [true; State::NODES];
+    let mut flags = [true; State::NODES];
     for k in 0..State::NODES {
-        strike(&mut leaves, count, parents[k], k as u8);
+        strike(&mut flags, count, parents[k], k as u8);
     }
-    leaves
+    flags
 }
 
-// No child, or a child of x. Most nodes have none, and then their parents are not looked at.
+// The same as `is_child`: most nodes name no child, and then no parent is looked at.
 fn child_at(count: u8, parents: &[u8; State::NODES], x: u8, q: u8) -> bool
-    ensures { λ r. ⌜ r ≡ childOk q (childIn count (now (parents .entry)) x q) ⌝ }
+    ensures { λ r. ⌜ r ≡ childIn count (now (parents .entry)) x q ⌝ }
 {
     if q == Child::NONE {
-        return true;
+        return false;
     }
     is_child(count, parents, x, q)
 }
@@ -354,13 +354,13 @@ fn right_at<'a>(
 pub fn configuration_ok(s: State) -> bool
     ensures { λ r. ⌜ r ≡ configurationOk s ⌝ }
 {
-    let leaves = leaves_of(s.count, &s.parents);
+    let flags = leaf_flags(s.count, &s.parents);
     let mut ok = true;
     for x in 0..State::NODES {
         let r = s.rights[x];
         let m = s.nodes[x];
         let l = s.links[x];
-        let leaf = leaves[x];
+        let leaf = flags[x];
         let right = right_at(
             s.count,
             &s.parents,

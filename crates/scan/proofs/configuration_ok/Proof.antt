@@ -9,14 +9,14 @@ use Rattle.scan.proofs.configuration_ok.Statement.{statement}
 use Rattle.scan.proofs.configuration_ok.Tie as tie
 
 abbrev Inv-loop : tie.InvT-loop
-Inv-loop s leaves ok₀ x₀ ok x = (x ≤ nodeLimit) × (ok ≡ all (rightAt s) x)
+Inv-loop s flags ok₀ x₀ ok x = (x ≤ nodeLimit) × (ok ≡ all (rightAt s) x)
 
 pub configuration-ok-spec : {M : Type 1} → statement M
 unfolding configurationOk rightAt
 configuration-ok-spec =
     tie.close (tie.spec
     Inv-loop
-    (λ s leaves ok₀ x₀ ok x. nodeLimit - x)
+    (λ s flags ok₀ x₀ ok x. nodeLimit - x)
     (λ c κs. search scans)
     (λ c. search scans)
     (λ c. search scans)
