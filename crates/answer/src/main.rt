@@ -1,4 +1,6 @@
 // Reads configurations with events, and resets, and writes the whole answer to each: docs/FORMAT.md, "answer".
+#![tactic(auto)]
+
 use libc::{STDIN_FILENO, STDOUT_FILENO};
 use model::{Config, Outcome};
 use octets::limits::EVENT;

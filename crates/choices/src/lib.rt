@@ -1,5 +1,7 @@
 // The decisions that the rows of document 01's event table make, on codes. Each is total and promises the definition of its
 // name in rules/specs, with one arm for each code.
+#![tactic(auto)]
+
 pub mod acquire;
 pub mod grant;
 pub mod messages;

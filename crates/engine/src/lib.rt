@@ -1,5 +1,7 @@
 // The step of document 01, computed: "the first number that applies is given and none otherwise". Every public function is
 // total and promises its definition of crate rules.
+#![tactic(auto)]
+
 ghost use Rattle.std.specs.Prelude.{◌≡◌};
 ghost use Rattle.rules.specs.Names.{named};
 ghost use Rattle.rules.specs.Step.{refused, step_of, onward_of};

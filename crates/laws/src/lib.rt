@@ -1,1 +1,2 @@
 // Laws of the step, proved from the definitions alone. No code.
+#![tactic(auto)]

@@ -1,5 +1,7 @@
 // The lines that document 01 prints, put into a lent buffer. Each function writes from `at` on, as far as the buffer goes, and
 // answers the place after its text.
+#![tactic(auto)]
+
 ghost use Rattle.std.specs.Prelude.{◌<◌};
 ghost use Rattle.octets.specs.Written.{Wrote};
 ghost use Rattle.lines.specs.Lines.{field, asked, line, name_text, name_line, names_by, end_line, bad_line};

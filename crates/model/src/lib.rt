@@ -1,5 +1,7 @@
 // The configuration and its step, by value: "the configuration's step takes self by value and hands back the new
 // configuration with number and answer value". The work is done by crate engine.
+#![tactic(auto)]
+
 ghost use Rattle.std.specs.Prelude.{◌≡◌};
 ghost use Rattle.rules.specs.Names.{named};
 ghost use Rattle.rules.specs.Step.{reset_of, step_of, onward_of};

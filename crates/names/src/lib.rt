@@ -1,5 +1,7 @@
 // The name of a node, on the lent rights and entries of all nodes. Every public function is total and promises its definition of
 // crate rules.
+#![tactic(auto)]
+
 ghost use Rattle.std.specs.Prelude.{◌≡◌, ◌<◌};
 ghost use Rattle.rules.specs.Codes.{node_limit};
 ghost use Rattle.rules.specs.Names.{name_by, some_in};

@@ -1,5 +1,7 @@
 // Whether an event may happen: when the needs of its kind hold, as the rows of document 01's event table have it, and the number of
 // a refusal. Every public function is total and promises its definition.
+#![tactic(auto)]
+
 ghost use Rattle.std.specs.Prelude.{◌≡◌};
 ghost use Rattle.rules.specs.Table.{kind_of};
 

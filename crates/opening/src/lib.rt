@@ -1,4 +1,6 @@
 // The first record of a trail: whether it is good, the tree in it, and reset by it.
+#![tactic(auto)]
+
 ghost use Rattle.std.specs.Prelude.{◌≡◌, ◌+◌, ◌≤◌};
 ghost use Rattle.rules.specs.Codes.{node_limit};
 ghost use Rattle.opening.specs.Opening.{shortest, first_length, first_ok, parents_of, reset_asked, reset_by};

@@ -1,5 +1,7 @@
 // One event, on the parts of a configuration that its owner lends: the arrays of numbers in place, the node and the link by value.
 // Nothing is copied.
+#![tactic(auto)]
+
 ghost use Rattle.std.specs.Prelude.{◌≡◌, ◌<◌};
 ghost use Rattle.rules.specs.Codes.{node_limit};
 ghost use Rattle.rules.specs.Step.{end_of};

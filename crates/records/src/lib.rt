@@ -1,4 +1,6 @@
 // Configurations and answers as bytes: docs/FORMAT.md. Every public function is total and promises its definition.
+#![tactic(auto)]
+
 ghost use Rattle.std.specs.Prelude.{◌≡◌};
 ghost use Rattle.octets.specs.BigEndian.{word};
 ghost use Rattle.octets.specs.Written.{Wrote};

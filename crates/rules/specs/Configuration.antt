@@ -95,8 +95,8 @@ unfoldable pub stands_ok : ℕ → ℕ → ℕ → ℕ → Node → Link → Boo
 stands_ok n x p r m l = ((ltb 0 x && ltb x n) || (eqb p 0 && slots_empty l)) && (ltb x n || blank r m)
 
 -- the tests at x, by subject
-abbrev pub field_own : State → ℕ → Bool
-field_own s x = node_ok (is_leaf s x) (is_child s x (node s x).requester) (is_child s x (node s x).release) (rights s x) (node s x)
+abbrev pub own_at : State → ℕ → Bool
+own_at s x = node_ok (is_leaf s x) (is_child s x (node s x).requester) (is_child s x (node s x).release) (rights s x) (node s x)
 
 abbrev pub pair_at : State → ℕ → ℕ → Bool
 pair_at s x k = pair_ok (rights s x) (is_child s x k) (entry s x k) (to_probe s x k) (pending s x k)
@@ -108,7 +108,7 @@ abbrev pub stands_at : State → ℕ → Bool
 stands_at s x = stands_ok s.count x (parent s x) (rights s x) (node s x) (link s x)
 
 unfoldable pub right_at : State → ℕ → Bool
-right_at s x = field_own s x && link_ok (link s x) && stands_at s x && row_at s x
+right_at s x = own_at s x && link_ok (link s x) && stands_at s x && row_at s x
 
 -- no clause of the list is broken
 unfoldable pub configuration_ok : State → Bool

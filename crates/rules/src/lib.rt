@@ -1,5 +1,7 @@
 // What a configuration, an event and an answer are (document 01, "What a configuration holds", "Events", "Numbers a caller
 // may get"). No function: the rules stand in specs/.
+#![tactic(auto)]
+
 pub mod codes;
 pub mod kinds;
 mod zero;

@@ -1,5 +1,7 @@
 // Number 2 by its subjects, as specs/Configuration of crate rules has them. Nodes and links go by value, arrays are lent, and no loop
 // leaves early: the compiler takes many cells at once.
+#![tactic(auto)]
+
 ghost use Rattle.std.specs.Prelude.{◌≡◌, ◌<◌};
 ghost use Rattle.rules.specs.Codes.{node_limit};
 ghost use Rattle.rules.specs.Tree.{child_by, child_in, leaf_in};

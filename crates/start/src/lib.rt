@@ -1,5 +1,7 @@
 // The configuration at reset, the all-zero record of a bad tree, and refusals. Every public function is total and promises its
 // definition of crate rules.
+#![tactic(auto)]
+
 ghost use Rattle.std.specs.Prelude.{◌≡◌};
 ghost use Rattle.rules.specs.Cells.{blank_node, blank_link};
 ghost use Rattle.rules.specs.Step.{refused, reset_of, tree_parent, tree_parents, start_of, blank_state};

@@ -1,5 +1,7 @@
 // The rows of document 01's event table, computed: for each kind its row, what it does at the scene, and what it answers. When its
 // needs hold is crate needs. Every public function is total and promises its definition of crate rules.
+#![tactic(auto)]
+
 ghost use Rattle.std.specs.Prelude.{◌≡◌};
 ghost use Rattle.rules.specs.Table.{kind_of};
 

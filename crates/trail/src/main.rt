@@ -1,4 +1,6 @@
 // Reads a trail from standard input, and prints what crate trails says of it.
+#![tactic(auto)]
+
 use libc::{STDIN_FILENO, STDOUT_FILENO};
 
 fn main() {

@@ -1,4 +1,6 @@
 // The trail of document 01: from the bytes of an input to the text that the program prints.
+#![tactic(auto)]
+
 ghost use Rattle.std.specs.Prelude.{◌≡◌, ◌<◌, length, take, drop};
 ghost use Rattle.io.specs.Counts.{IsPrefixLen};
 ghost use Rattle.octets.specs.Written.{Wrote};

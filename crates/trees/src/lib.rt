@@ -1,6 +1,8 @@
 // Number 1, children and leaves, on the lent list of parents: a configuration is not copied to look at its tree. Every public
 // function is total and promises its definition of crate rules. The loops read every node and leave by no early way: the compiler
 // then takes many nodes at once.
+#![tactic(auto)]
+
 ghost use Rattle.std.specs.Prelude.{◌≡◌, get_or};
 ghost use Rattle.words.specs.Vocab.{all, any};
 ghost use Rattle.rules.specs.Codes.{node_limit};
