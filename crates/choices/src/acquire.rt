@@ -5,6 +5,7 @@ ghost use Rattle.rules.specs.Acquire.{acquire_fits, acquire_for, asks_from, prob
 use rules::codes::{Entry, Message, Name, Purpose, Rights};
 
 // "load: rights N; store: N or B"
+#[tactic(auto, unfolding(rules::specs::Acquire::asks_from, words::specs::Vocab::choose))]
 pub fn asks_from(purpose: u8, rights: u8) -> bool
     ensures { result ≡ asks_from purpose rights }
 {
@@ -18,6 +19,7 @@ pub fn asks_from(purpose: u8, rights: u8) -> bool
 }
 
 // "AcquireB for load, AcquireT from N, AcquireU from B"
+#[tactic(auto, unfolding(rules::specs::Acquire::acquire_for, words::specs::Vocab::choose))]
 pub fn acquire_for(purpose: u8, rights: u8) -> u8
     ensures { result ≡ acquire_for purpose rights }
 {
@@ -36,6 +38,7 @@ pub fn acquire_for(purpose: u8, rights: u8) -> u8
 }
 
 // "AcquireB/T: child's entry None; AcquireU: not Trunk"
+#[tactic(auto, unfolding(rules::specs::Acquire::acquire_fits, words::specs::Vocab::choose))]
 pub fn acquire_fits(a: u8, entry: u8) -> bool
     ensures { result ≡ acquire_fits a entry }
 {
@@ -49,6 +52,7 @@ pub fn acquire_fits(a: u8, entry: u8) -> bool
 }
 
 // "purpose load for B, store for T/U"
+#[tactic(auto, unfolding(rules::specs::Acquire::purpose_for, words::specs::Vocab::choose))]
 pub fn purpose_for(a: u8) -> u8
     ensures { result ≡ purpose_for a }
 {
@@ -62,6 +66,7 @@ pub fn purpose_for(a: u8) -> u8
 }
 
 // "load at T: Trunk entries; load otherwise: none; store: all not None but the requester"
+#[tactic(auto, unfolding(rules::specs::Acquire::probed_for, words::specs::Vocab::choose))]
 pub fn probed_for(purpose: u8, name: u8, requester: u8, entry: u8, child: u8) -> bool
     ensures { result ≡ probed_for purpose name requester entry child }
 {

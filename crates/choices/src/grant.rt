@@ -9,6 +9,7 @@ use rules::Event;
 use rules::codes::{Entry, Message, Name, Purpose, Rights};
 
 // "load: N with GrantDataB or GrantDataT; store: B with GrantT or N with GrantDataT"
+#[tactic(auto, unfolding(rules::specs::Grant::grant_fits, words::specs::Vocab::choose))]
 pub fn grant_fits(purpose: u8, rights: u8, d: u8) -> bool
     ensures { result ≡ grant_fits purpose rights d }
 {
@@ -27,6 +28,7 @@ pub fn grant_fits(purpose: u8, rights: u8, d: u8) -> bool
 }
 
 // "data installed"
+#[tactic(auto, unfolding(rules::specs::Scenes::installed, words::specs::Vocab::choose))]
 pub fn installed(d: u8, down: u64, value: u64) -> u64
     ensures { result ≡ installed d down value }
 {
@@ -37,6 +39,7 @@ pub fn installed(d: u8, down: u64, value: u64) -> u64
 }
 
 // "load 0: named B, TT, TB; load 1: TT; store 1: Tip, other entries None, the requester's not Trunk"
+#[tactic(auto, unfolding(rules::specs::Grant::may_grant, words::specs::Vocab::choose))]
 pub fn may_grant(purpose: u8, choice: u8, name: u8, rights: u8, alone: bool, entry: u8) -> bool
     ensures { result ≡ may_grant purpose choice name rights alone entry }
 {
@@ -55,6 +58,7 @@ pub fn may_grant(purpose: u8, choice: u8, name: u8, rights: u8, alone: bool, ent
 }
 
 // "load 0: GrantDataB ..; load 1: GrantDataT ..; store: GrantT if entry Branch, else GrantDataT"
+#[tactic(auto, unfolding(rules::specs::Grant::grant_for, words::specs::Vocab::choose))]
 pub fn grant_for(purpose: u8, choice: u8, entry: u8) -> u8
     ensures { result ≡ grant_for purpose choice entry }
 {
@@ -78,6 +82,7 @@ pub fn grant_for(purpose: u8, choice: u8, entry: u8) -> u8
 }
 
 // GrantT carries no value.
+#[tactic(auto, unfolding(rules::specs::Grant::grant_value, words::specs::Vocab::choose))]
 pub fn grant_value(d: u8, value: u64) -> u64
     ensures { result ≡ grant_value d value }
 {

@@ -5,6 +5,7 @@ ghost use Rattle.rules.specs.Messages.{carries_up, installs, from_trunk, is_prob
 use rules::codes::{Entry, Message, Rights};
 
 // The message in C has a value.
+#[tactic(auto, unfolding(rules::specs::Messages::carries_up, words::specs::Vocab::choose))]
 pub fn carries_up(c: u8) -> bool
     ensures { result ≡ carries_up c }
 {
@@ -19,6 +20,7 @@ pub fn carries_up(c: u8) -> bool
 }
 
 // "data: value set, dirty": the parent installs the value.
+#[tactic(auto, unfolding(rules::specs::Messages::installs, words::specs::Vocab::choose))]
 pub fn installs(c: u8) -> bool
     ensures { result ≡ installs c }
 {
@@ -33,6 +35,7 @@ pub fn installs(c: u8) -> bool
 }
 
 // "data only from a Trunk entry"
+#[tactic(auto, unfolding(rules::specs::Messages::from_trunk, words::specs::Vocab::choose))]
 pub fn from_trunk(c: u8) -> bool
     ensures { result ≡ from_trunk c }
 {
@@ -46,6 +49,7 @@ pub fn from_trunk(c: u8) -> bool
     }
 }
 
+#[tactic(auto, unfolding(rules::specs::Messages::is_probe_ack, words::specs::Vocab::choose))]
 pub fn is_probe_ack(c: u8) -> bool
     ensures { result ≡ is_probe_ack c }
 {
@@ -59,6 +63,7 @@ pub fn is_probe_ack(c: u8) -> bool
     }
 }
 
+#[tactic(auto, unfolding(rules::specs::Messages::is_release, words::specs::Vocab::choose))]
 pub fn is_release(c: u8) -> bool
     ensures { result ≡ is_release c }
 {
@@ -73,6 +78,7 @@ pub fn is_release(c: u8) -> bool
 }
 
 // The message in D has a value.
+#[tactic(auto, unfolding(rules::specs::Messages::carries_down, words::specs::Vocab::choose))]
 pub fn carries_down(d: u8) -> bool
     ensures { result ≡ carries_down d }
 {
@@ -87,6 +93,7 @@ pub fn carries_down(d: u8) -> bool
 }
 
 // "B for GrantDataB, else Tip"
+#[tactic(auto, unfolding(rules::specs::Messages::granted_rights, words::specs::Vocab::choose))]
 pub fn granted_rights(d: u8) -> u8
     ensures { result ≡ granted_rights d }
 {
@@ -101,6 +108,7 @@ pub fn granted_rights(d: u8) -> u8
 }
 
 // "entry Branch", "Trunk", "then Trunk"
+#[tactic(auto, unfolding(rules::specs::Messages::entry_for, words::specs::Vocab::choose))]
 pub fn entry_for(d: u8) -> u8
     ensures { result ≡ entry_for d }
 {

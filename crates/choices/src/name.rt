@@ -5,6 +5,7 @@ ghost use Rattle.rules.specs.Names.{name_of, readable_name};
 use rules::codes::{Name, Rights};
 
 // "its rights, except that Tip is called T with any Trunk entry, else TB with any Branch entry, else TT"
+#[tactic(auto, unfolding(rules::specs::Names::name_of, words::specs::Vocab::choose))]
 pub fn name_of(rights: u8, trunks: bool, branches: bool) -> u8
     ensures { result ≡ name_of rights trunks branches }
 {

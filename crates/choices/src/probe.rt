@@ -6,6 +6,7 @@ use crate::messages::from_trunk;
 use rules::codes::{Cap, Entry, Message, Phase, Purpose, Rights};
 
 // "cap: the open probe's, else B for load and N otherwise"
+#[tactic(auto, unfolding(rules::specs::Probe::cap_for, words::specs::Vocab::choose))]
 pub fn cap_for(opened: bool, cap: u8, purpose: u8) -> u8
     ensures { result ≡ cap_for opened cap purpose }
 {
@@ -22,6 +23,7 @@ pub fn cap_for(opened: bool, cap: u8, purpose: u8) -> u8
 }
 
 // "main Idle, Wait or Leaving"
+#[tactic(auto, unfolding(rules::specs::Probe::serves_probes, words::specs::Vocab::choose))]
 pub fn serves_probes(phase: u8) -> bool
     ensures { result ≡ serves_probes phase }
 {
@@ -40,6 +42,7 @@ pub fn serves_probes(phase: u8) -> bool
 }
 
 // "Trunk entries for cap B, all not None for cap N"
+#[tactic(auto, unfolding(rules::specs::Probe::probed_by, words::specs::Vocab::choose))]
 pub fn probed_by(cap: u8, entry: u8) -> bool
     ensures { result ≡ probed_by cap entry }
 {
@@ -52,6 +55,7 @@ pub fn probed_by(cap: u8, entry: u8) -> bool
 }
 
 // "cap N: all entries None; cap B: none Trunk"
+#[tactic(auto, unfolding(rules::specs::Probe::cap_met, words::specs::Vocab::choose))]
 pub fn cap_met(cap: u8, bare: bool, some_trunk: bool) -> bool
     ensures { result ≡ cap_met cap bare some_trunk }
 {
@@ -64,6 +68,7 @@ pub fn cap_met(cap: u8, bare: bool, some_trunk: bool) -> bool
 }
 
 // The rights that a cap leaves at most.
+#[tactic(auto, unfolding(rules::specs::Probe::cap_rights, words::specs::Vocab::choose))]
 pub fn cap_rights(cap: u8) -> u8
     ensures { result ≡ cap_rights cap }
 {
@@ -76,6 +81,7 @@ pub fn cap_rights(cap: u8) -> u8
 }
 
 // "rights fall to the cap if above it"
+#[tactic(auto, unfolding(rules::specs::Probe::fallen, words::specs::Vocab::choose))]
 pub fn fallen(cap: u8, rights: u8) -> u8
     ensures { result ≡ fallen cap rights }
 {
@@ -87,6 +93,7 @@ pub fn fallen(cap: u8, rights: u8) -> u8
 }
 
 // "carries the value exactly if dirty"
+#[tactic(auto, unfolding(rules::specs::Probe::carried, words::specs::Vocab::choose))]
 pub fn carried(dirty: bool, value: u64) -> u64
     ensures { result ≡ carried dirty value }
 {
@@ -96,6 +103,7 @@ pub fn carried(dirty: bool, value: u64) -> u64
     0
 }
 
+#[tactic(auto, unfolding(rules::specs::Probe::probe_ack_for, words::specs::Vocab::choose))]
 pub fn probe_ack_for(dirty: bool) -> u8
     ensures { result ≡ probe_ack_for dirty }
 {
@@ -106,6 +114,7 @@ pub fn probe_ack_for(dirty: bool) -> u8
 }
 
 // "data only from a Trunk entry"
+#[tactic(auto, unfolding(rules::specs::Probe::data_fits))]
 pub fn data_fits(c: u8, entry: u8) -> bool
     ensures { result ≡ data_fits c entry }
 {

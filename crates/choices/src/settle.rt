@@ -7,6 +7,7 @@ use rules::codes::{Phase, Purpose, Rights};
 use rules::kinds::Settles;
 
 // "load: Give unless rights are N, then Ask; store: Give at Tip, else Ask; evict: LetGo"
+#[tactic(auto, unfolding(rules::specs::Settle::next_phase, words::specs::Vocab::choose))]
 pub fn next_phase(purpose: u8, rights: u8) -> u8
     ensures { result ≡ next_phase purpose rights }
 {
@@ -31,6 +32,7 @@ pub fn next_phase(purpose: u8, rights: u8) -> u8
 
 // "if both sets are empty, and the purpose is new or main was in Clear, the phase becomes: .. A new purpose with members in
 // to-probe is Clear."
+#[tactic(auto, unfolding(rules::specs::Settle::phase_after, words::specs::Vocab::choose))]
 pub fn phase_after(both_empty: bool, new: bool, phase: u8, purpose: u8, rights: u8) -> u8
     ensures { result ≡ phase_after both_empty new phase purpose rights }
 {
@@ -45,6 +47,7 @@ pub fn phase_after(both_empty: bool, new: bool, phase: u8, purpose: u8, rights: 
 }
 
 // The phase of a node once its kind has settled as its row says.
+#[tactic(auto, unfolding(rules::specs::Settle::settled_phase))]
 pub fn settled_phase(settles: Settles, both_empty: bool, m: Node, rights: u8) -> u8
     ensures { result ≡ settled_phase settles both_empty m rights }
 {

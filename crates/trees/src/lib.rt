@@ -42,6 +42,7 @@ fn parents_ok(count: u8, parents: &[u8; State::NODES]) -> bool
 }
 
 // "node count not 2..16, or, from node 1 upward, a parent not smaller than its node"
+#[tactic(auto, unfolding(rules::specs::Tree::tree_ok))]
 pub fn tree_ok(count: u8, parents: &[u8; State::NODES]) -> bool
     ensures { result ≡ tree_ok count parents.now }
 {
@@ -50,6 +51,7 @@ pub fn tree_ok(count: u8, parents: &[u8; State::NODES]) -> bool
 }
 
 // k is a node of the tree other than the root, and x is its parent p
+#[tactic(auto, unfolding(rules::specs::Tree::child_by))]
 pub fn child_by(count: u8, p: u8, x: u8, k: u8) -> bool
     ensures { result ≡ child_by count p x k }
 {
@@ -75,6 +77,7 @@ fn has_child(count: u8, parents: &[u8; State::NODES], x: u8) -> bool
 }
 
 // "A leaf has no child."
+#[tactic(auto, unfolding(rules::specs::Tree::leaf_in))]
 pub fn is_leaf(count: u8, parents: &[u8; State::NODES], x: u8) -> bool
     ensures { result ≡ leaf_in count parents.now x }
 {
