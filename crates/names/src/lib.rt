@@ -12,6 +12,7 @@ use rules::codes::Entry;
 use trees::at;
 
 // The loop reads the whole row and leaves by no early way: the compiler then takes many cells at once.
+#[tactic(auto, unfolding(rules::specs::Names::some_in))]
 fn some_in_row(entries: &[u8; State::CELLS], x: usize, e: u8) -> bool
     requires { x < node_limit }
     ensures { result ≡ some_in entries.now x e }

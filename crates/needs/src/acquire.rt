@@ -7,6 +7,7 @@ use rules::Scene;
 use rules::codes::{Message, Phase};
 
 // 6 send Acquire | Ask, A empty; load: rights N; store: N or B
+#[tactic(auto, unfolding(rules::specs::Acquire::send_acquire_needs))]
 pub fn send_acquire_needs(v: Scene) -> bool
     ensures { result ≡ send_acquire_needs v }
 {
@@ -17,6 +18,7 @@ pub fn send_acquire_needs(v: Scene) -> bool
 }
 
 // 7 take Acquire | A full, main and probe idle, sets empty; AcquireB/T: child's entry None; AcquireU: not Trunk
+#[tactic(auto, unfolding(rules::specs::Acquire::take_acquire_needs))]
 pub fn take_acquire_needs(v: Scene) -> bool
     ensures { result ≡ take_acquire_needs v }
 {

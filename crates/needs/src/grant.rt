@@ -8,6 +8,7 @@ use rules::Scene;
 use rules::codes::{Message, Phase};
 
 // 12 take Grant | Wait, probe idle; load: N with GrantDataB or GrantDataT; store: B with GrantT or N with GrantDataT
+#[tactic(auto, unfolding(rules::specs::Grant::take_grant_needs))]
 pub fn take_grant_needs(v: Scene) -> bool
     ensures { result ≡ take_grant_needs v }
 {
@@ -18,6 +19,7 @@ pub fn take_grant_needs(v: Scene) -> bool
 }
 
 // 13 send GrantAck | Confirm, E empty
+#[tactic(auto, unfolding(rules::specs::Grant::send_grant_ack_needs))]
 pub fn send_grant_ack_needs(v: Scene) -> bool
     ensures { result ≡ send_grant_ack_needs v }
 {
@@ -28,6 +30,7 @@ pub fn send_grant_ack_needs(v: Scene) -> bool
 
 // 14 send Grant | Give, requester's D empty; load 0: named B, TT, TB; load 1: TT; store 1: Tip, other entries None, the
 // requester's not Trunk
+#[tactic(auto, unfolding(rules::specs::Grant::send_grant_needs))]
 pub fn send_grant_needs(v: Scene, choice: u8) -> bool
     ensures { result ≡ send_grant_needs v choice }
 {
@@ -39,6 +42,7 @@ pub fn send_grant_needs(v: Scene, choice: u8) -> bool
 }
 
 // 15 take GrantAck | Await, requester's E full
+#[tactic(auto, unfolding(rules::specs::Grant::take_grant_ack_needs))]
 pub fn take_grant_ack_needs(v: Scene) -> bool
     ensures { result ≡ take_grant_ack_needs v }
 {

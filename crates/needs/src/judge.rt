@@ -11,6 +11,7 @@ use rules::{Answer, Event, Scene, State};
 use trees::is_child;
 
 // "kind not 1..19": a number that no row has.
+#[tactic(auto, unfolding(rules::specs::Table::listed))]
 fn is_kind(kind: u8) -> bool
     ensures { result ≡ is_kind kind }
 {
@@ -39,6 +40,7 @@ fn is_kind(kind: u8) -> bool
 }
 
 // "other not as named"
+#[tactic(auto, unfolding(rules::specs::Events::other_fits))]
 fn other_fits(other: Other, child: bool, o: u8) -> bool
     ensures { result ≡ other_fits other child o }
 {
@@ -50,6 +52,7 @@ fn other_fits(other: Other, child: bool, o: u8) -> bool
 }
 
 // "value not 0 where it must be"
+#[tactic(auto, unfolding(rules::specs::Events::value_fits))]
 fn value_fits(value: Value, x: u64) -> bool
     ensures { result ≡ value_fits value x }
 {
@@ -59,6 +62,7 @@ fn value_fits(value: Value, x: u64) -> bool
     }
 }
 
+#[tactic(auto, unfolding(rules::specs::Events::place_fits))]
 fn place_fits(place: Place, leaf: bool, x: u8) -> bool
     ensures { result ≡ place_fits place leaf x }
 {
@@ -71,6 +75,7 @@ fn place_fits(place: Place, leaf: bool, x: u8) -> bool
 }
 
 // The link that a kind acts on is there.
+#[tactic(auto, unfolding(rules::specs::Step::link_there))]
 fn link_there(end: End, child: bool) -> bool
     ensures { result ≡ link_there end child }
 {
@@ -115,6 +120,7 @@ fn turn_ok(
 }
 
 // Number 1 is looked for as far as the arrays reach: a caller whose tree is good pays no more for it.
+#[tactic(auto, unfolding(crate::specs::Judged::number_in))]
 pub fn judged(
     count: u8,
     parents: &[u8; State::NODES],

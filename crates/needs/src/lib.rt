@@ -16,6 +16,7 @@ mod release;
 mod scenes;
 
 // The needs of the event's kind hold at the scene; no kind's never do.
+#[tactic(auto, unfolding(rules::specs::Table::numbered, words::specs::Vocab::choose))]
 pub fn needs_hold(v: Scene, ev: Event) -> bool
     ensures { result ≡ (kind_of ev.kind).needs v ev }
 {

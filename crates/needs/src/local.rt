@@ -7,6 +7,7 @@ use rules::Scene;
 use rules::codes::{Name, Rights};
 
 // 1 load | leaf B or TT, all three transactions idle | answers the value
+#[tactic(auto, unfolding(rules::specs::Local::load_needs))]
 pub fn load_needs(v: Scene) -> bool
     ensures { result ≡ load_needs v }
 {
@@ -16,6 +17,7 @@ pub fn load_needs(v: Scene) -> bool
 }
 
 // 2 store | leaf TT, all idle
+#[tactic(auto, unfolding(rules::specs::Local::store_needs))]
 pub fn store_needs(v: Scene) -> bool
     ensures { result ≡ store_needs v }
 {
@@ -25,6 +27,7 @@ pub fn store_needs(v: Scene) -> bool
 }
 
 // 3 load miss | leaf N, all idle
+#[tactic(auto, unfolding(rules::specs::Local::load_miss_needs))]
 pub fn load_miss_needs(v: Scene) -> bool
     ensures { result ≡ load_miss_needs v }
 {
@@ -33,6 +36,7 @@ pub fn load_miss_needs(v: Scene) -> bool
 }
 
 // 4 store miss | leaf N or B, all idle
+#[tactic(auto, unfolding(rules::specs::Local::store_miss_needs))]
 pub fn store_miss_needs(v: Scene) -> bool
     ensures { result ≡ store_miss_needs v }
 {
@@ -41,6 +45,7 @@ pub fn store_miss_needs(v: Scene) -> bool
 }
 
 // 5 evict | not N, all idle, both sets empty
+#[tactic(auto, unfolding(rules::specs::Local::evict_needs))]
 pub fn evict_needs(v: Scene) -> bool
     ensures { result ≡ evict_needs v }
 {

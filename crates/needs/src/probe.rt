@@ -8,6 +8,7 @@ use rules::Scene;
 use rules::codes::{Child, Message, Phase};
 
 // 8 send Probe | child in to-probe, its B empty
+#[tactic(auto, unfolding(rules::specs::Probe::send_probe_needs))]
 pub fn send_probe_needs(v: Scene) -> bool
     ensures { result ≡ send_probe_needs v }
 {
@@ -16,6 +17,7 @@ pub fn send_probe_needs(v: Scene) -> bool
 }
 
 // 9 take Probe | B full, probe idle, sets empty, main Idle, Wait or Leaving
+#[tactic(auto, unfolding(rules::specs::Probe::take_probe_needs))]
 pub fn take_probe_needs(v: Scene) -> bool
     ensures { result ≡ take_probe_needs v }
 {
@@ -26,6 +28,7 @@ pub fn take_probe_needs(v: Scene) -> bool
 }
 
 // 10 send ProbeAck | probe open, sets empty, release idle, main not Leaving, C empty; cap N: all entries None; cap B: none Trunk
+#[tactic(auto, unfolding(rules::specs::Probe::send_probe_ack_needs))]
 pub fn send_probe_ack_needs(v: Scene) -> bool
     ensures { result ≡ send_probe_ack_needs v }
 {
@@ -41,6 +44,7 @@ pub fn send_probe_ack_needs(v: Scene) -> bool
 }
 
 // 11 take ProbeAck | C holds one, child pending, kept not above entry; data only from a Trunk entry
+#[tactic(auto, unfolding(rules::specs::Probe::take_probe_ack_needs))]
 pub fn take_probe_ack_needs(v: Scene) -> bool
     ensures { result ≡ take_probe_ack_needs v }
 {

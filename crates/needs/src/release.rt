@@ -9,6 +9,7 @@ use rules::Scene;
 use rules::codes::{Child, Entry, Message, Phase, Rights};
 
 // 16 send Release | LetGo, release idle, C empty, entries None, not N
+#[tactic(auto, unfolding(rules::specs::Release::send_release_needs))]
 pub fn send_release_needs(v: Scene) -> bool
     ensures { result ≡ send_release_needs v }
 {
@@ -22,6 +23,7 @@ pub fn send_release_needs(v: Scene) -> bool
 }
 
 // 17 take Release | C holds one, release idle, entry not None, not in Await for this child; data only from Trunk
+#[tactic(auto, unfolding(rules::specs::Release::take_release_needs))]
 pub fn take_release_needs(v: Scene, child: u8) -> bool
     ensures { result ≡ take_release_needs v child }
 {
@@ -34,6 +36,7 @@ pub fn take_release_needs(v: Scene, child: u8) -> bool
 }
 
 // 18 send ReleaseAck | release open, child's D empty
+#[tactic(auto, unfolding(rules::specs::Release::send_release_ack_needs))]
 pub fn send_release_ack_needs(v: Scene) -> bool
     ensures { result ≡ send_release_ack_needs v }
 {
@@ -43,6 +46,7 @@ pub fn send_release_ack_needs(v: Scene) -> bool
 }
 
 // 19 take ReleaseAck | Leaving, D holds it
+#[tactic(auto, unfolding(rules::specs::Release::take_release_ack_needs))]
 pub fn take_release_ack_needs(v: Scene) -> bool
     ensures { result ≡ take_release_ack_needs v }
 {

@@ -30,6 +30,7 @@ const VERSIONS: usize = 2;
 const LONGESTS: [u64; VERSIONS] = [0, 23];
 
 // The longest first record of a trail of the version, 0 where there is no such version.
+#[tactic(auto, unfolding(crate::specs::Versions::longest_first))]
 pub fn longest_first(version: u8) -> u64
     ensures { result ≡ longest_first version }
 {

@@ -27,6 +27,7 @@ pub fn put_bytes(out: &mut [u8], at: usize, t: &[u8]) -> usize
 }
 
 // The eight bytes of a number.
+#[tactic(auto, unfolding(crate::specs::BigEndian::bytes_of))]
 fn bytes_of(v: u64) -> [u8; 8]
     ensures { result ≡ word_bytes v }
 {
@@ -56,6 +57,7 @@ pub fn put_word(out: &mut [u8], at: usize, v: u64) -> usize
     put_bytes(out, at, &bytes)
 }
 
+#[tactic(auto, unfolding(crate::specs::Fields::flag_byte, words::specs::Vocab::choose))]
 fn flag_byte(b: bool) -> u8
     ensures { result ≡ flag_byte b }
 {

@@ -21,7 +21,7 @@ mod probes;
 mod sets;
 
 // What the owner writes back: the node and the link; and what it answers.
-#[derive(Drop)]
+#[derive(Clone, Copy)]
 pub struct Acted {
     pub number: u8,
     pub value: u64,

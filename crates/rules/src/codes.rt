@@ -1,6 +1,6 @@
 // The codes of document 01's lists, in the order in which it gives them. specs/Codes.antt says the same in the definitions.
 
-#[derive(Drop)]
+#[derive(Clone, Copy)]
 pub struct Rights(pub u8);
 
 impl Rights {
@@ -11,7 +11,7 @@ impl Rights {
     pub const TIP: u8 = 2;
 }
 
-#[derive(Drop)]
+#[derive(Clone, Copy)]
 pub struct Entry(pub u8);
 
 impl Entry {
@@ -22,7 +22,7 @@ impl Entry {
     pub const TRUNK: u8 = 2;
 }
 
-#[derive(Drop)]
+#[derive(Clone, Copy)]
 pub struct Name(pub u8);
 
 impl Name {
@@ -37,7 +37,7 @@ impl Name {
     pub const TT: u8 = 4;
 }
 
-#[derive(Drop)]
+#[derive(Clone, Copy)]
 pub struct Phase(pub u8);
 
 impl Phase {
@@ -60,7 +60,7 @@ impl Phase {
     pub const LEAVING: u8 = 8;
 }
 
-#[derive(Drop)]
+#[derive(Clone, Copy)]
 pub struct Purpose(pub u8);
 
 impl Purpose {
@@ -74,7 +74,7 @@ impl Purpose {
 }
 
 // The cap of an open probe; a message in slot B has the code of its cap.
-#[derive(Drop)]
+#[derive(Clone, Copy)]
 pub struct Cap(pub u8);
 
 impl Cap {
@@ -86,7 +86,7 @@ impl Cap {
 }
 
 // No child: an absent requester, an idle release.
-#[derive(Drop)]
+#[derive(Clone, Copy)]
 pub struct Child(pub u8);
 
 impl Child {
@@ -94,7 +94,7 @@ impl Child {
 }
 
 // The messages, by slot. EMPTY is an empty slot.
-#[derive(Drop)]
+#[derive(Clone, Copy)]
 pub struct Message(pub u8);
 
 impl Message {

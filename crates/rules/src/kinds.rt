@@ -1,7 +1,7 @@
 // What the event table says of a kind beside its needs and its effect. specs/Table.antt has the rows.
 
 // Number 4: where the kind may happen.
-#[derive(Drop)]
+#[derive(Clone, Copy)]
 pub enum Place {
     Anywhere,
     AtLeaf,
@@ -10,7 +10,7 @@ pub enum Place {
 }
 
 // Number 3: what its "other" may be.
-#[derive(Drop)]
+#[derive(Clone, Copy)]
 pub enum Other {
     NoOther,
     AChild,
@@ -18,14 +18,14 @@ pub enum Other {
 }
 
 // Number 3: what its value may be.
-#[derive(Drop)]
+#[derive(Clone, Copy)]
 pub enum Value {
     NoValue,
     AnyValue,
 }
 
 // The link that it acts on: the node's own, or that of the child named as other, of the requester, of the child noted for a ReleaseAck.
-#[derive(Drop)]
+#[derive(Clone, Copy)]
 pub enum End {
     Own,
     Named,
@@ -34,7 +34,7 @@ pub enum End {
 }
 
 // What it makes of the node's row in to-probe: as it stands, or written anew.
-#[derive(Drop)]
+#[derive(Clone, Copy)]
 pub enum Probes {
     Stay,
     Held,
@@ -43,14 +43,14 @@ pub enum Probes {
 }
 
 // Whether it settles: not, with the purpose that stands, or with a new one.
-#[derive(Drop)]
+#[derive(Clone, Copy)]
 pub enum Settles {
     Never,
     Again,
     Anew,
 }
 
-#[derive(Drop)]
+#[derive(Clone, Copy)]
 pub struct Row {
     pub place: Place,
     pub other: Other,

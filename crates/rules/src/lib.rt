@@ -9,7 +9,7 @@ mod zero;
 // A comment before a field is its row in docs/FORMAT.md; tools/print reads these structs.
 
 // A node's dirty flag and value, its main transaction, its probe transaction and its release transaction.
-#[derive(Drop)]
+#[derive(Clone, Copy)]
 pub struct Node {
     // flag
     pub dirty: bool,
@@ -29,7 +29,7 @@ pub struct Node {
 }
 
 // The five slots of the link between a node and its parent. `kept` and `up` belong to the message in C, `down` to that in D.
-#[derive(Drop)]
+#[derive(Clone, Copy)]
 pub struct Link {
     // 0 empty, AcquireB 1, AcquireT 2, AcquireU 3
     pub a: u8,
@@ -84,7 +84,7 @@ impl State {
 // What a row of the event table sees, and all that it may change: a node's rights and fields; the link that it acts on and, where
 // that is a child's, the entry and the set members for that child. The rest tells of the node's row and is only read: it is a leaf;
 // both sets are empty; all entries are None; some entry is Trunk, or Branch; all entries but that child's are None.
-#[derive(Drop)]
+#[derive(Clone, Copy)]
 pub struct Scene {
     pub rights: u8,
     pub node: Node,
@@ -101,7 +101,7 @@ pub struct Scene {
 }
 
 // "An event is kind, node, other, value."
-#[derive(Drop)]
+#[derive(Clone, Copy)]
 pub struct Event {
     pub kind: u8,
     pub node: u8,

@@ -1,6 +1,6 @@
 -- One look at each node tells the leaves.
 use mathlib.Core.Path.{◌≡◌, refl, ◌∙◌, sym, ap}
-use mathlib.Core.Bool.{Bool, true, false, not, ◌&&◌, ◌||◌, and_true, and-false}
+use mathlib.Core.Bool.{Bool, true, false, not, ◌&&◌, ◌||◌, and-true, and-false}
 use mathlib.Core.List.{List}
 use mathlib.Core.Logic.{◌≢◌}
 use Prim.Native.Nat.{ℕ, zero, suc, ◌+◌, ◌<◌, ◌≤◌}
@@ -20,7 +20,7 @@ use Rattle.scan.specs.Scanned.{struck, leaf_flags}
 -- a look at a node with the parent p, which is a node of the tree but the root if a holds, changes the flag of p alone
 look : (a : Bool) (p x : ℕ) (l : List Bool) (d : Bool) → length l ≡ node_limit → x < node_limit → get_or (choose (a && ltb p node_limit) (set l p false) l) x d ≡ (get_or l x d && not (a && eqb p x))
 unfolding choose
-look false p x l d h m = sym (and_true (get_or l x d))
+look false p x l d h m = sym (and-true (get_or l x d))
 look true p x l d h m = go (ℕ_discrete p x)
   where
     go : Dec (p ≡ x) → get_or (choose (ltb p node_limit) (set l p false) l) x d ≡ (get_or l x d && not (eqb p x))
@@ -29,7 +29,7 @@ look true p x l d h m = go (ℕ_discrete p x)
         rw (e, lt-ltb x node_limit m, eq-eqb x x refl) (get_or-set_same l x false d b ∙ sym (and-false (get_or l x d)))
     go (no o) =
         let q : x ≢ p = λ e. o (sym e) in
-        rw (ne_eqb p x o) (by_test (λ t. get_or t x d ≡ get_or l x d) (ltb p node_limit) (set l p false) l (λ t. get_or-set_other l p x false d q) (λ t. refl) ∙ sym (and_true (get_or l x d)))
+        rw (ne_eqb p x o) (by_test (λ t. get_or t x d ≡ get_or l x d) (ltb p node_limit) (set l p false) l (λ t. get_or-set_other l p x false d q) (λ t. refl) ∙ sym (and-true (get_or l x d)))
 
 flags_long : (n : ℕ) (ps : List ℕ) (k : ℕ) → length (leaf_flags n ps k) ≡ node_limit
 unfolding leaf_flags struck

@@ -14,6 +14,7 @@ use rules::{Link, Node, State};
 use trees::{child_by, is_child};
 
 // A node's copy of the line: "rights N with dirty set or value not 0, or B with dirty set".
+#[tactic(auto, unfolding(rules::specs::Configuration::copy_ok))]
 fn copy_ok(r: u8, dirty: bool, value: u64) -> bool
     ensures { result ≡ copy_ok r dirty value }
 {
@@ -21,6 +22,7 @@ fn copy_ok(r: u8, dirty: bool, value: u64) -> bool
 }
 
 // The phases of a load or a store.
+#[tactic(auto, unfolding(rules::specs::Configuration::serving, words::specs::Vocab::choose))]
 fn serving(phase: u8) -> bool
     ensures { result ≡ serving phase }
 {
@@ -39,6 +41,7 @@ fn serving(phase: u8) -> bool
 }
 
 // The phases of an evict.
+#[tactic(auto, unfolding(rules::specs::Configuration::evicting, words::specs::Vocab::choose))]
 fn evicting(phase: u8) -> bool
     ensures { result ≡ evicting phase }
 {
@@ -57,6 +60,7 @@ fn evicting(phase: u8) -> bool
 }
 
 // "Idle with a purpose, or another phase without; evict outside Clear, LetGo, Leaving, or load/store inside LetGo or Leaving"
+#[tactic(auto, unfolding(rules::specs::Configuration::work_ok, words::specs::Vocab::choose))]
 fn work_ok(phase: u8, purpose: u8) -> bool
     ensures { result ≡ work_ok phase purpose }
 {
@@ -73,6 +77,7 @@ fn work_ok(phase: u8, purpose: u8) -> bool
     }
 }
 
+#[tactic(auto, unfolding(rules::specs::Configuration::at_leaf, words::specs::Vocab::choose))]
 fn at_leaf(phase: u8) -> bool
     ensures { result ≡ at_leaf phase }
 {
@@ -91,6 +96,7 @@ fn at_leaf(phase: u8) -> bool
 }
 
 // "Give or Await at a leaf"
+#[tactic(auto, unfolding(rules::specs::Configuration::leaf_ok))]
 fn leaf_ok(leaf: bool, phase: u8) -> bool
     ensures { result ≡ leaf_ok leaf phase }
 {
@@ -98,6 +104,7 @@ fn leaf_ok(leaf: bool, phase: u8) -> bool
     !leaf | fits
 }
 
+#[tactic(auto, unfolding(rules::specs::Configuration::has_requester, words::specs::Vocab::choose))]
 fn has_requester(purpose: u8) -> bool
     ensures { result ≡ has_requester purpose }
 {
@@ -111,6 +118,7 @@ fn has_requester(purpose: u8) -> bool
 }
 
 // "a requester missing for load/store at a non-leaf, or present elsewhere"
+#[tactic(auto, unfolding(rules::specs::Configuration::requester_ok))]
 fn requester_ok(leaf: bool, purpose: u8, q: u8) -> bool
     ensures { result ≡ requester_ok leaf purpose q }
 {
@@ -119,6 +127,7 @@ fn requester_ok(leaf: bool, purpose: u8, q: u8) -> bool
 }
 
 // "requester or release child that isn't a child of that node"
+#[tactic(auto, unfolding(rules::specs::Configuration::child_ok))]
 fn child_ok(q: u8, child: bool) -> bool
     ensures { result ≡ child_ok q child }
 {
@@ -126,6 +135,7 @@ fn child_ok(q: u8, child: bool) -> bool
 }
 
 // "a cap on a closed probe"; an open one has a cap
+#[tactic(auto, unfolding(rules::specs::Configuration::probe_ok))]
 fn probe_ok(opened: bool, cap: u8) -> bool
     ensures { result ≡ probe_ok opened cap }
 {
@@ -133,6 +143,7 @@ fn probe_ok(opened: bool, cap: u8) -> bool
 }
 
 // All that is asked of a node's rights and fields.
+#[tactic(auto, unfolding(rules::specs::Configuration::node_ok))]
 fn node_ok(leaf: bool, asks: bool, leaves: bool, r: u8, m: Node) -> bool
     ensures { result ≡ node_ok leaf asks leaves r m }
 {
@@ -147,6 +158,7 @@ fn node_ok(leaf: bool, asks: bool, leaves: bool, r: u8, m: Node) -> bool
 }
 
 // Slot C with its kept rights and its value.
+#[tactic(auto, unfolding(rules::specs::Configuration::up_ok))]
 fn up_ok(c: u8, kept: u8, value: u64) -> bool
     ensures { result ≡ up_ok c kept value }
 {
@@ -159,6 +171,7 @@ fn up_ok(c: u8, kept: u8, value: u64) -> bool
 }
 
 // Slot D with its value.
+#[tactic(auto, unfolding(rules::specs::Configuration::down_ok))]
 fn down_ok(d: u8, value: u64) -> bool
     ensures { result ≡ down_ok d value }
 {
@@ -167,6 +180,7 @@ fn down_ok(d: u8, value: u64) -> bool
 }
 
 // All that is asked of the five slots of a link.
+#[tactic(auto, unfolding(rules::specs::Configuration::link_ok))]
 fn link_ok(l: Link) -> bool
     ensures { result ≡ link_ok l }
 {
@@ -180,6 +194,7 @@ fn link_ok(l: Link) -> bool
 }
 
 // "an entry, set member .. that isn't a child of that node; an entry not None at rights N; a Trunk entry at rights other than Tip"
+#[tactic(auto, unfolding(rules::specs::Configuration::pair_ok, rules::specs::Configuration::member_ok, rules::specs::Configuration::entry_ok, rules::specs::Table::listed))]
 fn pair_ok(r: u8, child: bool, e: u8, listed: bool, waits: bool) -> bool
     ensures { result ≡ pair_ok r child e listed waits }
 {
@@ -241,6 +256,7 @@ fn row_at<'a>(
 }
 
 // "a full slot on the root or beyond the last node"
+#[tactic(auto, unfolding(rules::specs::Configuration::slots_empty))]
 fn slots_empty(l: Link) -> bool
     ensures { result ≡ slots_empty l }
 {
@@ -252,6 +268,7 @@ fn slots_empty(l: Link) -> bool
 }
 
 // "a nonzero field beyond the last node"
+#[tactic(auto, unfolding(rules::specs::Configuration::blank))]
 fn blank(r: u8, m: Node) -> bool
     ensures { result ≡ blank r m }
 {
@@ -267,6 +284,7 @@ fn blank(r: u8, m: Node) -> bool
 }
 
 // Where x stands, with the parent p. Of a node of the tree below the root nothing is asked.
+#[tactic(auto, unfolding(rules::specs::Configuration::stands_ok, words::specs::Vocab::choose))]
 fn stands_ok(count: u8, x: u8, p: u8, r: u8, m: Node, l: Link) -> bool
     ensures { result ≡ stands_ok count x p r m l }
 {
@@ -279,6 +297,7 @@ fn stands_ok(count: u8, x: u8, p: u8, r: u8, m: Node, l: Link) -> bool
 }
 
 // Node k, with the parent p, is looked at: its parent is struck off the leaves.
+#[tactic(auto, unfolding(crate::specs::Scanned::struck, words::specs::Vocab::choose))]
 fn strike(flags: &mut [bool; State::NODES], count: u8, p: u8, k: u8)
     ensures { flags.new ≡ struck count p k flags.old }
 {
@@ -289,6 +308,7 @@ fn strike(flags: &mut [bool; State::NODES], count: u8, p: u8, k: u8)
 }
 
 // Which nodes are leaves: one look at each node, where `is_leaf` looks at all of them for one.
+#[tactic(auto, unfolding(crate::specs::Scanned::leaf_flags))]
 fn leaf_flags(count: u8, parents: &[u8; State::NODES]) -> [bool; State::NODES]
     ensures { result ≡ leaf_flags count parents.now node_limit }
 {
@@ -300,6 +320,7 @@ fn leaf_flags(count: u8, parents: &[u8; State::NODES]) -> [bool; State::NODES]
 }
 
 // The same as `is_child`: most nodes name no child, and then no parent is looked at.
+#[tactic(auto, unfolding(rules::specs::Tree::child_by))]
 fn child_at(count: u8, parents: &[u8; State::NODES], x: u8, q: u8) -> bool
     ensures { result ≡ child_in count parents.now x q }
 {
@@ -342,6 +363,7 @@ fn right_at<'a>(
 }
 
 // No clause of the list is broken.
+#[tactic(auto, unfolding(rules::specs::Configuration::configuration_ok, rules::specs::Configuration::right_at))]
 pub fn configuration_ok(s: State) -> bool
     ensures { result ≡ configuration_ok s }
 {

@@ -40,6 +40,7 @@ fn blank_state() -> State
 }
 
 // A parent of nodes 1 to the last is the caller's; elsewhere it is zero.
+#[tactic(auto, unfolding(rules::specs::Step::tree_parent, words::specs::Vocab::choose))]
 fn tree_parent(count: u8, parents: &[u8; State::NODES], k: usize) -> u8
     ensures { result ≡ tree_parent count parents.now k }
 {
@@ -52,6 +53,7 @@ fn tree_parent(count: u8, parents: &[u8; State::NODES], k: usize) -> u8
     0
 }
 
+#[tactic(auto, unfolding(rules::specs::Step::tree_parents))]
 fn tree_parents(count: u8, parents: &[u8; State::NODES]) -> [u8; State::NODES]
     ensures { result ≡ tree_parents count parents.now }
 {
@@ -63,6 +65,7 @@ fn tree_parents(count: u8, parents: &[u8; State::NODES]) -> [u8; State::NODES]
 }
 
 // "root Tip, clean, first value; all others N with value 0; entries None; everything idle and empty"
+#[tactic(auto, unfolding(rules::specs::Step::start_of))]
 fn start(count: u8, parents: &[u8; State::NODES], first: u64) -> State
     ensures { result ≡ start_of count parents.now first }
 {
@@ -89,6 +92,7 @@ pub fn refused(number: u8, s: State) -> Answer
 }
 
 // The configuration at reset; on a bad tree number 1 and an all-zero record.
+#[tactic(auto, unfolding(rules::specs::Step::reset_of, words::specs::Vocab::choose))]
 pub fn started(count: u8, parents: [u8; State::NODES], first: u64) -> Answer
     ensures { result ≡ reset_of count parents first }
 {

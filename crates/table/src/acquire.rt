@@ -7,6 +7,7 @@ use rules::Scene;
 use rules::codes::{Message, Phase};
 
 // 6 send Acquire | AcquireB for load, AcquireT from N, AcquireU from B; Wait
+#[tactic(auto, unfolding(rules::specs::Acquire::send_acquire_does))]
 pub fn send_acquire_does(v: Scene) -> Scene
     ensures { result ≡ send_acquire_does v }
 {
@@ -22,6 +23,7 @@ pub fn send_acquire_does(v: Scene) -> Scene
 }
 
 // 7 take Acquire | empties A, purpose load for B, store for T/U, requester; to-probe: ..; settle
+#[tactic(auto, unfolding(rules::specs::Acquire::take_acquire_does))]
 pub fn take_acquire_does(v: Scene, requester: u8) -> Scene
     ensures { result ≡ take_acquire_does v requester }
 {

@@ -9,6 +9,7 @@ use rules::codes::{Message, Phase};
 use rules::{Node, Scene};
 
 // 12 take Grant | empties D; B for GrantDataB, else Tip; clean; data installed; Confirm
+#[tactic(auto, unfolding(rules::specs::Grant::take_grant_does))]
 pub fn take_grant_does(v: Scene) -> Scene
     ensures { result ≡ take_grant_does v }
 {
@@ -29,6 +30,7 @@ pub fn take_grant_does(v: Scene) -> Scene
 }
 
 // "a leaf goes Idle, another Give"
+#[tactic(auto, unfolding(rules::specs::Grant::confirmed, words::specs::Vocab::choose))]
 fn confirmed(leaf: bool, m: Node) -> Node
     ensures { result ≡ confirmed leaf m }
 {
@@ -41,6 +43,7 @@ fn confirmed(leaf: bool, m: Node) -> Node
 }
 
 // 13 send GrantAck | a leaf goes Idle, another Give
+#[tactic(auto, unfolding(rules::specs::Grant::send_grant_ack_does))]
 pub fn send_grant_ack_does(v: Scene) -> Scene
     ensures { result ≡ send_grant_ack_does v }
 {
@@ -54,6 +57,7 @@ pub fn send_grant_ack_does(v: Scene) -> Scene
 }
 
 // 14 send Grant | load 0: GrantDataB, entry Branch; load 1: GrantDataT, Trunk; store: GrantT if entry Branch, else GrantDataT, then Trunk; Await
+#[tactic(auto, unfolding(rules::specs::Grant::send_grant_does))]
 pub fn send_grant_does(v: Scene, choice: u8) -> Scene
     ensures { result ≡ send_grant_does v choice }
 {
@@ -73,6 +77,7 @@ pub fn send_grant_does(v: Scene, choice: u8) -> Scene
 }
 
 // 15 take GrantAck | empties E; Idle
+#[tactic(auto, unfolding(rules::specs::Grant::take_grant_ack_does))]
 pub fn take_grant_ack_does(v: Scene) -> Scene
     ensures { result ≡ take_grant_ack_does v }
 {

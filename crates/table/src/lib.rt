@@ -16,6 +16,7 @@ pub mod rows;
 mod scenes;
 
 // The scene after the event's kind; no kind leaves it as it is.
+#[tactic(auto, unfolding(rules::specs::Table::numbered, words::specs::Vocab::choose))]
 pub fn done(v: Scene, ev: Event) -> Scene
     ensures { result ≡ (kind_of ev.kind).does v ev }
 {
@@ -45,6 +46,7 @@ pub fn done(v: Scene, ev: Event) -> Scene
 }
 
 // "The answer value is the load's, else 0."
+#[tactic(auto, unfolding(rules::specs::Table::numbered, words::specs::Vocab::choose))]
 pub fn said(v: Scene, kind: u8) -> u64
     ensures { result ≡ (kind_of kind).says v }
 {

@@ -6,6 +6,7 @@ use rules::Scene;
 use rules::codes::{Phase, Purpose};
 
 // 2 store | sets value, dirty
+#[tactic(auto, unfolding(rules::specs::Local::store_does))]
 pub fn store_does(v: Scene, value: u64) -> Scene
     ensures { result ≡ store_does v value }
 {
@@ -18,6 +19,7 @@ pub fn store_does(v: Scene, value: u64) -> Scene
 }
 
 // 3 load miss | Ask, load
+#[tactic(auto, unfolding(rules::specs::Local::load_miss_does))]
 pub fn load_miss_does(v: Scene) -> Scene
     ensures { result ≡ load_miss_does v }
 {
@@ -30,6 +32,7 @@ pub fn load_miss_does(v: Scene) -> Scene
 }
 
 // 4 store miss | Ask, store
+#[tactic(auto, unfolding(rules::specs::Local::store_miss_does))]
 pub fn store_miss_does(v: Scene) -> Scene
     ensures { result ≡ store_miss_does v }
 {
@@ -42,6 +45,7 @@ pub fn store_miss_does(v: Scene) -> Scene
 }
 
 // 5 evict | evict; to-probe: all entries not None; settle
+#[tactic(auto, unfolding(rules::specs::Local::evict_does))]
 pub fn evict_does(v: Scene) -> Scene
     ensures { result ≡ evict_does v }
 {

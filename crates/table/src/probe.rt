@@ -8,6 +8,7 @@ use rules::Scene;
 use rules::codes::{Cap, Message, Rights};
 
 // 8 send Probe | cap: the open probe's, else B for load and N otherwise; moves child to pending
+#[tactic(auto, unfolding(rules::specs::Probe::send_probe_does))]
 pub fn send_probe_does(v: Scene) -> Scene
     ensures { result ≡ send_probe_does v }
 {
@@ -23,6 +24,7 @@ pub fn send_probe_does(v: Scene) -> Scene
 }
 
 // 9 take Probe | empties B, opens; to-probe: Trunk entries for cap B, all not None for cap N
+#[tactic(auto, unfolding(rules::specs::Probe::take_probe_does))]
 pub fn take_probe_does(v: Scene) -> Scene
     ensures { result ≡ take_probe_does v }
 {
@@ -38,6 +40,7 @@ pub fn take_probe_does(v: Scene) -> Scene
 }
 
 // 10 send ProbeAck | rights fall to the cap if above it; kept = new rights; carries the value exactly if dirty; becomes clean; closes
+#[tactic(auto, unfolding(rules::specs::Probe::send_probe_ack_does))]
 pub fn send_probe_ack_does(v: Scene) -> Scene
     ensures { result ≡ send_probe_ack_does v }
 {
@@ -62,6 +65,7 @@ pub fn send_probe_ack_does(v: Scene) -> Scene
 }
 
 // 11 take ProbeAck | empties C; entry becomes kept; data: value set, dirty; leaves pending; settle
+#[tactic(auto, unfolding(rules::specs::Probe::take_probe_ack_does))]
 pub fn take_probe_ack_does(v: Scene) -> Scene
     ensures { result ≡ take_probe_ack_does v }
 {

@@ -9,6 +9,7 @@ use rules::Scene;
 use rules::codes::{Child, Entry, Message, Phase, Rights};
 
 // 16 send Release | ReleaseData exactly if dirty; rights N; Leaving
+#[tactic(auto, unfolding(rules::specs::Release::send_release_does, rules::specs::Scenes::value_at, rules::specs::Scenes::dirty_at, words::specs::Vocab::choose))]
 pub fn send_release_does(v: Scene) -> Scene
     ensures { result ≡ send_release_does v }
 {
@@ -30,6 +31,7 @@ pub fn send_release_does(v: Scene) -> Scene
 }
 
 // 17 take Release | empties C; entry None; child leaves to-probe, not pending; data: value set, dirty; child noted; settle
+#[tactic(auto, unfolding(rules::specs::Release::take_release_does))]
 pub fn take_release_does(v: Scene, child: u8) -> Scene
     ensures { result ≡ take_release_does v child }
 {
@@ -48,6 +50,7 @@ pub fn take_release_does(v: Scene, child: u8) -> Scene
 }
 
 // 18 send ReleaseAck | closes
+#[tactic(auto, unfolding(rules::specs::Release::send_release_ack_does))]
 pub fn send_release_ack_does(v: Scene) -> Scene
     ensures { result ≡ send_release_ack_does v }
 {
@@ -63,6 +66,7 @@ pub fn send_release_ack_does(v: Scene) -> Scene
 }
 
 // 19 take ReleaseAck | empties D; Idle
+#[tactic(auto, unfolding(rules::specs::Release::take_release_ack_does))]
 pub fn take_release_ack_does(v: Scene) -> Scene
     ensures { result ≡ take_release_ack_does v }
 {

@@ -38,6 +38,7 @@ fn plain(place: Place) -> Row
 }
 
 // The row of the kind; no kind has the row of no_kind.
+#[tactic(auto, unfolding(rules::specs::Table::numbered, words::specs::Vocab::choose))]
 pub fn row_of(kind: u8) -> Row
     ensures { result ≡ (kind_of kind).row }
 {

@@ -18,6 +18,7 @@ pub fn idled(m: Node) -> Node
 }
 
 // "Rights N always set value 0 and clean."
+#[tactic(auto, unfolding(rules::specs::Scenes::value_at, words::specs::Vocab::choose))]
 pub fn value_at(rights: u8, value: u64) -> u64
     ensures { result ≡ value_at rights value }
 {
@@ -28,6 +29,7 @@ pub fn value_at(rights: u8, value: u64) -> u64
 }
 
 // "data: value set, dirty", with what the link had in C.
+#[tactic(auto, unfolding(rules::specs::Scenes::data_taken, words::specs::Vocab::choose))]
 pub fn data_taken(l: Link, m: Node) -> Node
     ensures { result ≡ data_taken l m }
 {
