@@ -30,6 +30,7 @@ pub struct Acted {
 }
 
 // An index from a byte: 0 where it is none.
+#[tactic(auto, unfolding(crate::specs::Parts::index_of, words::specs::Vocab::choose))]
 fn index(k: u8) -> usize
     ensures value { result ≡ index_of k }
     ensures upper_bound { result < node_limit }
@@ -50,6 +51,7 @@ pub fn node_of(ev: Event) -> usize
 }
 
 // The number of the node whose link is acted on: that of x itself, or of a child that m or the event names.
+#[tactic(auto, unfolding(rules::specs::Step::end_of))]
 fn end_number(end: End, m: Node, x: u8, other: u8) -> u8
     ensures { result ≡ end_of end m x other }
 {
@@ -62,6 +64,7 @@ fn end_number(end: End, m: Node, x: u8, other: u8) -> u8
 }
 
 // The node whose link the event acts on; m is the node at which it happens.
+#[tactic(auto, unfolding(crate::specs::Parts::end_in))]
 pub fn end_of(ev: Event, m: Node) -> usize
     ensures value { result ≡ end_in ev m }
     ensures upper_bound { result < node_limit }

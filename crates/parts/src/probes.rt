@@ -16,6 +16,7 @@ use rules::codes::Entry;
 use rules::kinds::Probes;
 use rules::{Scene, State};
 
+#[tactic(auto, unfolding(rules::specs::Local::held))]
 fn held(e: u8) -> bool
     ensures { result ≡ held e }
 {
@@ -82,6 +83,7 @@ fn asked(
     asked_row(set, entries, x, purpose, name, other)
 }
 
+#[tactic(auto, unfolding(rules::specs::Step::probed_in))]
 pub fn write_row(
     probes: Probes,
     v: Scene,

@@ -7,6 +7,7 @@ ghost use Rattle.rules.specs.Names.{none_in, others_none_in, member_in, sets_emp
 use rules::State;
 use rules::codes::Entry;
 
+#[tactic(auto, unfolding(rules::specs::Names::none_in))]
 pub fn none_held(entries: &[u8; State::CELLS], x: usize) -> bool
     requires { x < node_limit }
     ensures { result ≡ none_in entries.now x }
@@ -18,6 +19,7 @@ pub fn none_held(entries: &[u8; State::CELLS], x: usize) -> bool
     none
 }
 
+#[tactic(auto, unfolding(rules::specs::Names::others_none_in))]
 pub fn others_none(entries: &[u8; State::CELLS], x: usize, q: usize) -> bool
     requires { x < node_limit }
     ensures { result ≡ others_none_in entries.now x q }
@@ -29,6 +31,7 @@ pub fn others_none(entries: &[u8; State::CELLS], x: usize, q: usize) -> bool
     none
 }
 
+#[tactic(auto, unfolding(rules::specs::Names::member_in))]
 fn has_member(set: &[bool; State::CELLS], x: usize) -> bool
     requires { x < node_limit }
     ensures { result ≡ member_in set.now x }
