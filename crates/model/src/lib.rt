@@ -9,12 +9,12 @@ ghost use Rattle.model.specs.Outcomes.{outcome_of};
 
 use rules::{Event, State};
 
-#[derive(Drop)]
+#[derive(Clone, Copy)]
 pub struct Config {
     pub state: State,
 }
 
-#[derive(Drop)]
+#[derive(Clone, Copy)]
 pub struct Outcome {
     pub number: u8,
     pub value: u64,

@@ -1,7 +1,7 @@
 -- Settle, and which entries are probed for.
 use Rattle.std.specs.Prelude.{Bool, true, false, ◌&&◌, ◌||◌, ℕ, eqb}
 use Rattle.words.specs.Vocab.{choose}
-use Rattle.rules.specs.Codes.{rights_n, tip, none, clear, ask, give, let_go}
+use Rattle.rules.specs.Codes.{rights_n, tip, clear, ask, give, let_go}
 use Rattle.rules.specs.Cases.{per_purpose}
 use Rattle.rules.specs.declared.Node.{Node}
 use Rattle.rules.specs.declared.kinds.Settles.{Settles}

@@ -51,7 +51,7 @@ pub struct Link {
 
 // The tree (the node count and each node's parent) and what it holds. A row of entries or of a set belongs to one node and
 // has one cell for each child.
-#[derive(Drop)]
+#[derive(Clone, Copy)]
 pub struct State {
     // the node count
     pub count: u8,
@@ -110,7 +110,7 @@ pub struct Event {
 }
 
 // A number of document 01's table, the answer value, and the configuration after the step.
-#[derive(Drop)]
+#[derive(Clone, Copy)]
 pub struct Answer {
     pub number: u8,
     pub value: u64,
