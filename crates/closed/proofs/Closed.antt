@@ -7,7 +7,6 @@ use borrow.Author.Tests.{eqb-false, not-true}
 use lib.Dec.{eqb}
 use Rattle.words.specs.Vocab.{choose}
 use Rattle.rules.specs.Codes.{node_limit, accepts}
-use Rattle.rules.specs.Cells.{node}
 use Rattle.rules.specs.Tree.{good_tree, is_child, is_leaf}
 use Rattle.rules.specs.Configuration.{configuration_ok}
 use Rattle.rules.specs.Scenes.{scene_of}

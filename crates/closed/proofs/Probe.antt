@@ -9,7 +9,7 @@ use lib.Dec.{eqb, leb}
 use Rattle.words.specs.Vocab.{all, choose}
 use Rattle.words.proofs.Facts.{both, and_true, clash, differ, implies, all_at, by_test, choose_at, choose_off}
 use Rattle.rules.specs.Codes.{levels, ups, rights_n, rights_b, tip, none, trunk, cap_b, cap_n, empty, probe_n, release_data}
-use Rattle.rules.specs.Cells.{rights, entry, to_probe, pending, link, value}
+use Rattle.rules.specs.Cells.{rights, entry, to_probe, pending, value}
 use Rattle.rules.specs.Tree.{is_child}
 use Rattle.rules.specs.Messages.{carries_up, installs, from_trunk, is_probe_ack}
 use Rattle.rules.specs.Configuration.{copy_ok, probe_ok, up_ok, entry_ok}

@@ -11,7 +11,7 @@ use lib.Dec.{eqb}
 use Rattle.words.specs.Vocab.{any, choose}
 use Rattle.words.proofs.Facts.{any_same, choose_at, choose_off}
 use Rattle.rules.specs.Codes.{node_limit, cells}
-use Rattle.rules.specs.Cells.{blank_node, blank_link, cell, rights, entry, to_probe, pending, node, link}
+use Rattle.rules.specs.Cells.{blank_node, blank_link, cell, entry, to_probe, pending}
 use Rattle.rules.specs.With.{with_phase}
 use Rattle.rules.specs.Names.{member_in}
 use Rattle.rules.specs.Scenes.{name_in}

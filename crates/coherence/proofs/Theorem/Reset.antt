@@ -9,7 +9,7 @@ use native.Mathlib.Omega.{arith}
 use borrow.Author.Tests.{ne_eqb}
 use Rattle.rules.specs.Codes.{node_limit, rights_n, tip, none, no_child}
 use Rattle.rules.specs.With.{with_value}
-use Rattle.rules.specs.Cells.{blank_node, blank_link, parent, rights, entry, to_probe, pending, node, link, value}
+use Rattle.rules.specs.Cells.{blank_node, blank_link, parent, rights, entry, to_probe, pending, node, value}
 use Rattle.rules.specs.Tree.{tree_ok}
 use Rattle.rules.specs.Messages.{carries_down}
 use Rattle.rules.specs.Release.{awaits}

@@ -11,7 +11,7 @@ use Rattle.words.specs.Vocab.{choose}
 use Rattle.words.proofs.Facts.{by_test}
 use Rattle.rules.specs.Codes.{node_limit, accepts, rights_n, tip, name_b, name_tt, to_load, to_store}
 use Rattle.rules.specs.Kinds.{kind_load, kind_store}
-use Rattle.rules.specs.Cells.{rights, node, value}
+use Rattle.rules.specs.Cells.{rights, value}
 use Rattle.rules.specs.Tree.{tree_ok, is_child, is_leaf}
 use Rattle.rules.specs.Names.{named, readable}
 use Rattle.rules.specs.Configuration.{configuration_ok}
