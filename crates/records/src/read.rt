@@ -7,6 +7,7 @@ use crate::layout::Layout;
 use octets::read::{byte_at, flag_at, flag_ok, word_at};
 use rules::{Link, Node, State};
 
+#[tactic(auto, unfolding(crate::specs::StateBytes::node_at))]
 fn node_at(s: &[u8], i: usize) -> Node
     requires { i ≤ 2 * state_size }
     ensures { result ≡ node_at s.now i }
@@ -31,6 +32,7 @@ fn node_at(s: &[u8], i: usize) -> Node
     }
 }
 
+#[tactic(auto, unfolding(crate::specs::StateBytes::link_at))]
 fn link_at(s: &[u8], i: usize) -> Link
     requires { i ≤ 2 * state_size }
     ensures { result ≡ link_at s.now i }
@@ -55,6 +57,7 @@ fn link_at(s: &[u8], i: usize) -> Link
     }
 }
 
+#[tactic(auto, using(words::proofs::Meeting::loops), unfolding(crate::specs::StateBytes::byte_row_at))]
 pub fn byte_row_at(s: &[u8], i: usize) -> [u8; State::NODES]
     requires { i ≤ state_size }
     ensures { result ≡ byte_row_at s.now i }
@@ -66,6 +69,7 @@ pub fn byte_row_at(s: &[u8], i: usize) -> [u8; State::NODES]
     row
 }
 
+#[tactic(auto, using(words::proofs::Meeting::loops), unfolding(crate::specs::StateBytes::byte_cells_at))]
 pub fn byte_cells_at(s: &[u8], i: usize) -> [u8; State::CELLS]
     requires { i ≤ state_size }
     ensures { result ≡ byte_cells_at s.now i }
@@ -77,6 +81,7 @@ pub fn byte_cells_at(s: &[u8], i: usize) -> [u8; State::CELLS]
     row
 }
 
+#[tactic(auto, using(words::proofs::Meeting::loops), unfolding(crate::specs::StateBytes::flag_cells_at))]
 pub fn flag_cells_at(s: &[u8], i: usize) -> [bool; State::CELLS]
     requires { i ≤ state_size }
     ensures { result ≡ flag_cells_at s.now i }
@@ -88,6 +93,7 @@ pub fn flag_cells_at(s: &[u8], i: usize) -> [bool; State::CELLS]
     row
 }
 
+#[tactic(auto, using(words::proofs::Meeting::loops), unfolding(crate::specs::StateBytes::node_row_at))]
 pub fn node_row_at(s: &[u8], i: usize) -> [Node; State::NODES]
     requires { i ≤ state_size }
     ensures { result ≡ node_row_at s.now i }
@@ -99,6 +105,7 @@ pub fn node_row_at(s: &[u8], i: usize) -> [Node; State::NODES]
     row
 }
 
+#[tactic(auto, using(words::proofs::Meeting::loops), unfolding(crate::specs::StateBytes::link_row_at))]
 pub fn link_row_at(s: &[u8], i: usize) -> [Link; State::NODES]
     requires { i ≤ state_size }
     ensures { result ≡ link_row_at s.now i }
@@ -110,6 +117,7 @@ pub fn link_row_at(s: &[u8], i: usize) -> [Link; State::NODES]
     row
 }
 
+#[tactic(auto, unfolding(crate::specs::StateBytes::state_of))]
 pub fn state_of(s: &[u8]) -> State
     ensures { result ≡ state_of s.now }
 {
@@ -133,6 +141,7 @@ pub fn state_of(s: &[u8]) -> State
     }
 }
 
+#[tactic(auto, unfolding(crate::specs::StateBytes::node_flags_ok))]
 fn node_flags_ok(s: &[u8], i: usize) -> bool
     requires { i ≤ 2 * state_size }
     ensures { result ≡ node_flags_ok s.now i }
@@ -142,6 +151,7 @@ fn node_flags_ok(s: &[u8], i: usize) -> bool
     dirty & probe
 }
 
+#[tactic(auto, using(words::proofs::Meeting::loops), unfolding(crate::specs::StateBytes::flag_cells_ok))]
 fn flag_cells_ok(s: &[u8], i: usize) -> bool
     requires { i ≤ state_size }
     ensures { result ≡ flag_cells_ok s.now i }
@@ -155,6 +165,7 @@ fn flag_cells_ok(s: &[u8], i: usize) -> bool
     true
 }
 
+#[tactic(auto, using(words::proofs::Meeting::loops), unfolding(crate::specs::StateBytes::node_row_ok))]
 fn node_row_ok(s: &[u8], i: usize) -> bool
     requires { i ≤ state_size }
     ensures { result ≡ node_row_ok s.now i }
@@ -168,6 +179,7 @@ fn node_row_ok(s: &[u8], i: usize) -> bool
     true
 }
 
+#[tactic(auto, unfolding(crate::specs::StateBytes::flags_ok))]
 pub fn flags_ok(s: &[u8]) -> bool
     ensures { result ≡ flags_ok s.now }
 {

@@ -1,0 +1,10 @@
+use mathlib.Core.Path.{◌≡◌}
+use Prim.Native.Nat.{◌≤◌, ◌+◌}
+use lib.ListN.{replicate}
+use Rattle.words.specs.Vocab.{fill}
+use Rattle.rules.specs.Codes.{node_limit}
+use Rattle.octets.specs.BigEndian.{byte}
+use Rattle.records.proofs.read.byte_row_at.Given as goal
+
+abbrev pub invariant-loop-k : goal.invariant-loop-k
+invariant-loop-k l = (l.k ≤ node_limit) × (l.row ≡ fill (λ j. byte l.s (l.i + j)) 0 l.k (replicate node_limit 0))

@@ -1,0 +1,11 @@
+use mathlib.Core.Path.{◌≡◌}
+use mathlib.Core.Bool.{false}
+use Prim.Native.Nat.{◌≤◌, ◌+◌}
+use lib.ListN.{replicate}
+use Rattle.words.specs.Vocab.{fill}
+use Rattle.rules.specs.Codes.{cells}
+use Rattle.octets.specs.Fields.{flag_at}
+use Rattle.records.proofs.read.flag_cells_at.Given as goal
+
+abbrev pub invariant-loop-k : goal.invariant-loop-k
+invariant-loop-k l = (l.k ≤ cells) × (l.row ≡ fill (λ j. flag_at l.s (l.i + j)) 0 l.k (replicate cells false))

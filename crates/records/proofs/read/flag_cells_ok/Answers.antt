@@ -1,0 +1,7 @@
+use Rattle.words.proofs.Meeting.{loops}
+use Rattle.records.specs.StateBytes.{flag_cells_ok}
+use Rattle.records.proofs.read.flag_cells_ok.Goals as goal
+
+pub returns-then-not-fits : goal.returns-then-not-fits
+unfolding flag_cells_ok
+returns-then-not-fits c = search loops

@@ -1,0 +1,5 @@
+use Rattle.octets.proofs.BytesWritten.{wrote_four}
+use Rattle.records.proofs.write.put_link_2.Goals as goal
+
+pub returns : goal.returns
+returns c = search (wrote_four)

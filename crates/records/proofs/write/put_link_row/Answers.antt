@@ -1,0 +1,11 @@
+use native.Mathlib.Omega.{arith}
+use Rattle.rules.specs.Zero.{zero_link}
+use Rattle.octets.proofs.BytesWritten.{each, each_more}
+use Rattle.records.specs.StateBytes.{link_bytes}
+use Rattle.records.proofs.write.put_link_row.Goals as goal
+
+pub loop-k-init : goal.loop-k-init
+loop-k-init c = search each
+
+pub loop-k-preserved : goal.loop-k-preserved
+loop-k-preserved c = (omega arith, each_more link_bytes c.args.row c.loop-k.k zero_link c.loop-k.invariant.1 (omega arith) c.put_link-p.ensures)

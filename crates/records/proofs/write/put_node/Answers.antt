@@ -1,0 +1,7 @@
+use Rattle.octets.proofs.BytesWritten.{wrote_then}
+use Rattle.records.specs.StateBytes.{node_bytes}
+use Rattle.records.proofs.write.put_node.Goals as goal
+
+pub returns : goal.returns
+unfolding node_bytes
+returns c = search (wrote_then)

@@ -1,0 +1,7 @@
+use Rattle.octets.proofs.BytesWritten.{wrote_then}
+use Rattle.records.specs.StateBytes.{state_bytes}
+use Rattle.records.proofs.write.put_state.Goals as goal
+
+pub returns : goal.returns
+unfolding state_bytes
+returns c = search (wrote_then)
