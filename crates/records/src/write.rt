@@ -105,7 +105,7 @@ fn put_state_2<'a>(
     nodes: [Node; State::NODES],
     links: [Link; State::NODES],
 ) -> usize
-    ensures { Wrote out.old at (flags to_probe.now ++ flags pending.now ++ flat_map node_bytes (nodes) ++ flat_map link_bytes (links)) out.new result }
+    ensures { Wrote out.old at (flags to_probe.now ++ flags pending.now ++ flat_map node_bytes nodes ++ flat_map link_bytes links) out.new result }
 {
     let p = put_flags(out, at, to_probe);
     let q = put_flags(out, p, pending);

@@ -1,3 +1,4 @@
+-- Printed by tools/print from crates/rules/src/lib.rt. The row is filled as far as k.
 use mathlib.Core.Path.{◌≡◌}
 use mathlib.Core.Bool.{false}
 use Prim.Native.Nat.{◌≤◌, ◌+◌}

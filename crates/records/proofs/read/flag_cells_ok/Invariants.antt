@@ -1,3 +1,4 @@
+-- Printed by tools/print from crates/rules/src/lib.rt. The test holds as far as k.
 use mathlib.Core.Path.{◌≡◌}
 use mathlib.Core.Bool.{true}
 use Prim.Native.Nat.{◌≤◌, ◌+◌}

@@ -1,3 +1,4 @@
+-- Printed by tools/print from crates/rules/src/lib.rt. The first k are written.
 use native.Mathlib.Omega.{arith}
 use Rattle.rules.specs.Zero.{zero_link}
 use Rattle.octets.proofs.BytesWritten.{each, each_more}

@@ -1,3 +1,4 @@
+-- Printed by tools/print from crates/rules/src/lib.rt. The first k are written.
 use mathlib.Core.List.{flat_map}
 use Prim.Native.Nat.{◌≤◌}
 use lib.ListN.{take}

@@ -1,3 +1,4 @@
+-- Printed by tools/print from crates/rules/src/lib.rt. Its groups of fields, one after the other.
 use Rattle.octets.proofs.BytesWritten.{wrote_then}
 use Rattle.records.specs.StateBytes.{node_bytes}
 use Rattle.records.proofs.write.put_node.Goals as goal
