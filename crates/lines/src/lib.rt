@@ -60,6 +60,7 @@ pub fn put_line(out: &mut [u8], at: usize, index: u64, ev: Event, number: u8, va
 }
 
 // The name of a node, after a space.
+#[tactic(auto, unfolding(crate::specs::Lines::name_text))]
 fn put_name(out: &mut [u8], at: usize, name: u8) -> usize
     ensures { Wrote out.old at (name_text name) out.new result }
 {
