@@ -34,9 +34,10 @@ fn first_ok(version: u8, s: &[u8]) -> bool
 }
 
 // The parents of a tree of n nodes: the root's is 0, the others stand after the first value.
+#[tactic(auto, unfolding(crate::specs::Opening::parents_of))]
 fn parents(s: &[u8], n: usize) -> [u8; State::NODES]
-    requires le_n { 1 ≤ n }
-    requires n_le_node_limit { n ≤ node_limit }
+    requires some { 1 ≤ n }
+    requires few { n ≤ node_limit }
     ensures { result ≡ parents_of s.now n }
 {
     let mut ps = [0u8; State::NODES];
@@ -47,9 +48,10 @@ fn parents(s: &[u8], n: usize) -> [u8; State::NODES]
 }
 
 // Reset, as a good first record asks for it.
+#[tactic(auto, unfolding(crate::specs::Opening::reset_asked))]
 fn reset_asked(s: &[u8]) -> Answer
-    requires shortest_bound { shortest ≤ first_length s.now }
-    requires s_bound { first_length s.now ≤ node_limit + 7 }
+    requires low { shortest ≤ first_length s.now }
+    requires high { first_length s.now ≤ node_limit + 7 }
     ensures { result ≡ reset_asked s.now }
 {
     let count = length_at(s, 1) as usize - 7;
@@ -57,6 +59,7 @@ fn reset_asked(s: &[u8]) -> Answer
 }
 
 // Reset by the first record: one that is not good asks for no tree.
+#[tactic(auto, unfolding(crate::specs::Opening::reset_by, words::specs::Vocab::choose))]
 pub fn reset_by(version: u8, s: &[u8]) -> Answer
     ensures { result ≡ reset_by version s.now }
 {
