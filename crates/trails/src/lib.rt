@@ -20,10 +20,10 @@ pub const ROOM: usize = 262144;
 
 // Fills the start of the lent buffer with the whole text and answers its length. What stands after it stays.
 pub fn trail(input: &[u8], out: &mut [u8; ROOM]) -> usize
-    ensures out_after { take result out.new ≡ trail_of input.now }
-    ensures value { result ≡ length (trail_of input.now) }
-    ensures out_unchanged { drop result out.new ≡ drop result out.old }
-    ensures prefix_len { IsPrefixLen result out.new }
+    ensures text { take result out.new ≡ trail_of input.now }
+    ensures size { result ≡ length (trail_of input.now) }
+    ensures rest { drop result out.new ≡ drop result out.old }
+    ensures prefix { IsPrefixLen result out.new }
 {
     // Lent as a slice, the array shows the proof how long it is.
     length_of(out);
@@ -36,8 +36,8 @@ fn length_of(out: &[u8]) -> usize {
 
 // The text under the version, written from the start of the buffer.
 fn trail_under(input: &[u8], out: &mut [u8; ROOM], version: u8) -> usize
-    ensures wrote { Wrote out.old 0 (trail_under version input.now) out.new result }
-    ensures upper_bound { result < room }
+    ensures text { Wrote out.old 0 (trail_under version input.now) out.new result }
+    ensures fits { result < room }
 {
     if longest_first(version) < 1 {
         return put_bad(out, 0, 0);

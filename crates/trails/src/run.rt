@@ -17,6 +17,7 @@ use rules::{Event, State};
 const RECORD: usize = PREFIX + EVENT;
 
 // The event of a record, as a trail of the version reads it.
+#[tactic(auto, unfolding(crate::specs::Trail::event_of))]
 fn event(version: u8, r: &[u8; RECORD]) -> Event
     ensures { result ≡ event_of version r.now }
 {
@@ -26,8 +27,8 @@ fn event(version: u8, r: &[u8; RECORD]) -> Event
 // The line of an event that a trail prints: an index has at most five digits.
 fn put_next(out: &mut [u8; ROOM], at: usize, index: u64, ev: Event, number: u8, value: u64) -> usize
     requires { index < 100000 }
-    ensures wrote { Wrote out.old at (line index ev.kind ev.node number value) out.new result }
-    ensures upper_bound { result ≤ at + 39 }
+    ensures text { Wrote out.old at (line index ev.kind ev.node number value) out.new result }
+    ensures near { result ≤ at + 39 }
 {
     put_line(out, at, index, ev, number, value)
 }
@@ -42,8 +43,8 @@ fn put_closing<'a>(
     rights: &'a [u8; State::NODES],
     entries: &'a [u8; State::CELLS],
 ) -> usize
-    ensures wrote { Wrote out.old at (closing_in input.now end n rights.now entries.now) out.new result }
-    ensures upper_bound { result ≤ at + 800 }
+    ensures text { Wrote out.old at (closing_in input.now end n rights.now entries.now) out.new result }
+    ensures near { result ≤ at + 800 }
 {
     if end >= input.len() {
         return put_end(out, at, n, rights, entries);
@@ -55,11 +56,11 @@ fn put_closing<'a>(
 // The configuration stands in its parts and is changed in place: an event copies a node and a link. Its tree is good, so number 1
 // is not looked for at each event.
 pub fn events(input: &[u8], out: &mut [u8; ROOM], version: u8, start: State, first: usize) -> usize
-    requires start_value { good_tree start ≡ true }
-    requires le_first { 12 ≤ first }
-    requires first_bound { first ≤ reach input.now }
-    ensures wrote { Wrote out.old 0 (events_from version window input.now first 1 start) out.new result }
-    ensures upper_bound { result < room }
+    requires tree { good_tree start ≡ true }
+    requires low { 12 ≤ first }
+    requires within { first ≤ reach input.now }
+    ensures text { Wrote out.old 0 (events_from version window input.now first 1 start) out.new result }
+    ensures fits { result < room }
 {
     let limit = reach(input);
     let count = start.count;
