@@ -2,7 +2,7 @@ about A ProbeAck is sent while ReleaseAck is owed and the Release is still in C 
 clause REL 16 1
 refused writes Needs
 straight 16
-shows staleReader 0
+shows stale_reader 0
 file: crates/rules/specs/Probe.antt
-old:  && not (eqb (v .node .phase) leaving) && eqb (v .link .c) empty
+old:  && not (eqb v.node.phase leaving) && eqb v.link.c empty
 new:

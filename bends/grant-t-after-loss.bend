@@ -2,9 +2,9 @@ about GrantT goes to a requester that lost its copy, and the requester takes it 
 clause COPY 34 1
 refused closed Grant
 straight 0
-shows staleReader 1
+shows stale_reader 1
 file: crates/rules/specs/Grant.antt
-old: eqb r rightsB
-new: (eqb r rightsB || eqb r rightsN)
-old: choose (eqb e branch) grantT grantDataT
-new: grantT
+old: eqb r rights_b
+new: (eqb r rights_b || eqb r rights_n)
+old: choose (eqb e branch) grant_t grant_data_t
+new: grant_t

@@ -2,7 +2,7 @@ about A release that is taken also counts as the ProbeAck: the child leaves pend
 clause PRB 14 1
 refused writes Effects
 straight 15
-shows twoReaders 2 1
+shows two_readers 2 1
 file: crates/rules/specs/Release.antt
-old: ▷ leavesToProbe
-new: ▷ leavesToProbe ▷ Rattle·rules·specs.specs.Scenes.leavesPending
+old: ▷ leaves_to_probe
+new: ▷ leaves_to_probe ▷ Rattle.rules.specs.Scenes.leaves_pending
