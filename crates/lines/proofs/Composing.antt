@@ -4,11 +4,11 @@ use mathlib.Core.List.{List, [], ◌∷◌, flat_map}
 use Prim.Native.Nat.{ℕ, suc, ◌+◌, ◌*◌, ◌^◌, ◌<◌, ◌≤◌, zero, min}
 use native.Mathlib.Numerals.{add-one}
 use native.Mathlib.Omega.{arith}
-use lib.ListN.{length, length-append}
+use lib.ListN.{length, length-append, get_or-eq_default}
 use Rattle.rules.specs.Names.{name_by}
 use Rattle.octets.specs.Written.{Wrote}
 use Rattle.octets.proofs.BytesWritten.{wrote_then, wrote_none, wrote_length, one_more}
-use Rattle.lines.specs.Lines.{space, newline, decimal, field, asked, line, name_text, name_line, names_by, end_line, bad_line}
+use Rattle.lines.specs.Lines.{space, newline, decimal, field, asked, line, name_text, name_texts, name_line, names_by, end_line, bad_line}
 use Rattle.lines.proofs.Decimal.{spelled_short}
 
 -- a number, then what follows it
@@ -16,7 +16,7 @@ pub field_wrote : {a b c : List ℕ} {at p r : ℕ} (n after : ℕ) {t : List �
 unfolding field
 field_wrote n after e f g = rw e at (wrote_then f g)
 
--- the names of the first x nodes: none, and one more
+-- the names of the first x nodes: one more, and all
 pub name_more : {a b c : List ℕ} {at p r : ℕ} (rs es : List ℕ) (x : ℕ) {n : ℕ} → Wrote a at (name_line (names_by rs es x)) b p → n ≡ name_by rs es x → Wrote b p (name_text n) c r → Wrote a at (name_line (names_by rs es (x + 1))) c r
 unfolding names_by
 name_more rs es x f e g = rw (add-one, ← e) (one_more name_text (names_by rs es x) _ f g)
@@ -25,7 +25,21 @@ pub names_none : (rs es a : List ℕ) (at : ℕ) {p : ℕ} → p ≡ min at (len
 unfolding names_by flat_map
 names_none rs es a at e = wrote_none a at e
 
-pub ruleset naming = (names_none, name_more, wrote_length, arith)
+pub names_all : {a b : List ℕ} {at p : ℕ} (rs es : List ℕ) (x n : ℕ) → x ≤ n → n ≤ x → Wrote a at (name_line (names_by rs es x)) b p → Wrote a at (name_line (names_by rs es n)) b p
+names_all rs es x n h g w = let e : n ≡ x = omega arith in rw e w
+
+pub ruleset naming = (names_none, name_more, names_all, wrote_length, arith)
+
+-- the name of the code k, and no name
+pub name_wrote : {a b : List ℕ} {at r k n : ℕ} → n ≡ k → Wrote a at (name_text k) b r → Wrote a at (name_text n) b r
+name_wrote e f = rw e f
+
+unnamed : (n : ℕ) → 5 ≤ n → name_text n ≡ []
+unfolding name_text
+unnamed n h = get_or-eq_default name_texts [] h
+
+pub unnamed_wrote : (n : ℕ) (a : List ℕ) (at : ℕ) {p : ℕ} → 5 ≤ n → p ≡ min at (length a) → Wrote a at (name_text n) a p
+unnamed_wrote n a at h e = rw (unnamed n h) (wrote_none a at e)
 
 -- a number below 10 ^ j and what follows it
 field_short : (j n after : ℕ) → 1 ≤ j → n < 10 ^ j → length (field n after) ≤ j + 1

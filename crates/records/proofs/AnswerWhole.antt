@@ -1,9 +1,9 @@
 -- An answer's bytes fill its array.
-use mathlib.Core.Path.{◌≡◌}
-use mathlib.Core.List.{List}
+use mathlib.Core.Path.{◌≡◌, ◌∙◌, sym}
+use mathlib.Core.List.{List, map}
 use Prim.Native.Nat.{ℕ}
 use native.Mathlib.Omega.{arith}
-use lib.ListN.{length, length-append, replicate, length-replicate}
+use lib.ListN.{length, length-append, length-map, replicate, length-replicate}
 use Rattle.rules.specs.declared.State.{State}
 use Rattle.octets.specs.BigEndian.{word_bytes}
 use Rattle.octets.specs.Fields.{one}
@@ -13,6 +13,10 @@ use Rattle.octets.proofs.BytesWritten.{wrote_three, wrote_whole}
 use Rattle.records.specs.AnswerBytes.{answer_size, answer_bytes}
 use Rattle.records.specs.StateBytes.{state_bytes}
 use Rattle.records.proofs.Sizes.{Sized, state_size_lem}
+
+-- an array of structs is as long as the list of their values
+pub mapped_long : (X Y : Type 0) (f : X → Y) (l : List X) (n : ℕ) → length (map f l) ≡ n → length l ≡ n
+mapped_long X Y f l n e = sym (length-map l f) ∙ e
 
 answer_size_lem : (n v : ℕ) (s : State) → Sized s → length (answer_bytes n v s) ≡ answer_size
 unfolding answer_bytes

@@ -3,10 +3,11 @@ use mathlib.Core.Path.{◌≡◌, refl, ◌∙◌, sym, ap, subst, subst⁻¹}
 use mathlib.Core.Bool.{Bool, true, false, ◌&&◌}
 use mathlib.Core.List.{List, ◌++◌}
 use Prim.Native.Nat.{ℕ, zero, suc, ◌+◌, ◌-◌, ◌<◌, ◌≤◌}
+use native.Mathlib.Numerals.{add-one}
 use native.Mathlib.Omega.{arith}
 use borrow.Author.Tests.{le-leb, lt-leb, eq-eqb, ne_eqb}
-use lib.ListN.{length, take, drop}
-use lib.Seq.{take_all}
+use lib.ListN.{length, take, drop, get_or, set, length-drop}
+use lib.Seq.{take_all, take-suc, take-suc-set, get_or-drop}
 use lib.Dec.{leb, eqb}
 use Rattle.words.proofs.Facts.{choose_true, choose_false}
 use Rattle.rules.specs.Step.{onward_of}
@@ -23,6 +24,9 @@ use Rattle.trails.specs.Trail.{record_size, record_at, record_ok, event_of, clos
 -- the rest, written from p on, makes t of what stood in the buffer at first
 pub record Left (o₀ t o : List ℕ) (p : ℕ) (rest : List ℕ) : Type 0 where
   pub then : {o' : List ℕ} {r : ℕ} → Wrote o p rest o' r → Wrote o₀ 0 t o' r
+
+pub left_all : (o t : List ℕ) → Left o t o 0 t
+left_all o t = record { then = λ w. w }
 
 left_less : {o₀ t o o' : List ℕ} {p p' : ℕ} (u rest : List ℕ) → Left o₀ t o p (u ++ rest) → Wrote o p u o' p' → Left o₀ t o' p' rest
 left_less u rest l w = record { then = λ v. l.then (wrote_then w v) }
@@ -52,11 +56,17 @@ whole s at {r} {v} e f g h =
     let q : length_at (record_at s at) 0 ≡ event_size = rw (← e) (sym f ∙ g) in
     rw (le-leb (at + record_size) (reach s) h) (eq-eqb (length_at (record_at s at) 0) event_size q)
 
--- the record that is copied out of the input
+-- the record that is copied out of the input, and a byte more of it
 pub copied : (s r : List ℕ) (at k : ℕ) → length r ≡ record_size → record_size ≤ k → k ≤ record_size → take k r ≡ take k (drop at s) → r ≡ record_at s at
 copied s r at k h l m e =
     let n : k ≡ record_size = omega arith in
     sym (take_all record_size r (omega arith)) ∙ rw n at e
+
+pub byte_more : (r s : List ℕ) (at k : ℕ) → length r ≡ record_size → k < record_size → at + k < length s → take k r ≡ take k (drop at s) → take (k + 1) (set r k (get_or s (at + k) 0)) ≡ take (k + 1) (drop at s)
+byte_more r s at k h l g e =
+    let m : k < length r = omega arith in
+    let n : k < length (drop at s) = rw length-drop (omega arith) in
+    rw (add-one, take-suc-set r k, take-suc (drop at s) k 0, get_or-drop at s, e)
 
 -- what the definition says at a good record, and elsewhere
 stops : (v n : ℕ) (s : List ℕ) (at i : ℕ) (c : State) → record_ok s at ≡ false → events_from v n s at i c ≡ closing s at c
