@@ -4,96 +4,92 @@
 use model::{Config, Outcome};
 use octets::limits::EVENT;
 use records::layout::Layout;
+use rules::Event;
 use std::io;
-use std::io::{ErrorKind, Read, Stdin, Stdout, Write};
+use std::io::{ErrorKind, Read, Stdin, Write};
 
-// The first bytes of the requests.
-const RESET: u8 = 1;
+// What is asked for.
+#[derive(Clone, Copy)]
+enum Request {
+    Reset,
+    Step,
+    Onward,
+}
 
-const STEP: u8 = 2;
-
-const ONWARD: u8 = 3;
-
-// More requests than an input can hold: a loop has to end.
-const REQUESTS: u64 = 1000000000000;
-
-// Fills the bytes from the input, or answers false where the input ends first.
-fn filled(input: &mut Stdin, bytes: &mut [u8]) -> io::Result<bool> {
-    match input.read_exact(bytes) {
-        Ok(()) => Ok(true),
-        Err(e) => {
-            if e.kind() == ErrorKind::UnexpectedEof {
-                return Ok(false);
-            }
-            Err(e)
+impl Request {
+    // By the first byte of the request.
+    fn of(code: u8) -> Option<Request> {
+        match code {
+            1 => Some(Request::Reset),
+            2 => Some(Request::Step),
+            3 => Some(Request::Onward),
+            _ => None,
         }
     }
 }
 
-fn answer_sent(output: &mut Stdout, a: Outcome) -> io::Result<()> {
-    let c = a.config;
-    let s = c.state;
-    let bytes = records::answer_bytes(a.number, a.value, s);
-    output.write_all(&bytes)
+// The next bytes of the input; none where it ends first.
+fn take<const N: usize>(input: &mut Stdin) -> io::Result<Option<[u8; N]>> {
+    let mut bytes = [0; N];
+    match input.read_exact(&mut bytes) {
+        Ok(()) => Ok(Some(bytes)),
+        Err(e) if e.kind() == ErrorKind::UnexpectedEof => Ok(None),
+        Err(e) => Err(e),
+    }
 }
 
-// Each of the next three answers false where the input ends, or has no request.
-fn reset_answered(input: &mut Stdin, output: &mut Stdout) -> io::Result<bool> {
-    let mut bytes = [0u8; records::RESET];
-    if !filled(input, &mut bytes)? {
-        return Ok(false);
-    }
+// The answer to the rest of a request; none where the input ends first, or holds no request.
+fn reset_answer(input: &mut Stdin) -> io::Result<Option<Outcome>> {
+    let Some(bytes) = take::<{ records::RESET }>(input)? else {
+        return Ok(None);
+    };
     let parents = records::parents_of(&bytes);
     let first = records::first_of(&bytes);
-    answer_sent(output, Config::reset(bytes[0], parents, first))?;
-    Ok(true)
+    Ok(Some(Config::reset(bytes[0], parents, first)))
 }
 
-fn step_answered(input: &mut Stdin, output: &mut Stdout, kind: u8) -> io::Result<bool> {
-    let mut bytes = [0u8; Layout::STATE];
-    if !filled(input, &mut bytes)? {
-        return Ok(false);
-    }
+// The same for a configuration and an event; `step` is what is made of them.
+fn step_answer<F: FnOnce(Config, Event) -> Outcome>(
+    input: &mut Stdin,
+    step: F,
+) -> io::Result<Option<Outcome>>
+    requires { F.IsAlwaysCallable step }
+{
+    let Some(bytes) = take::<{ Layout::STATE }>(input)? else {
+        return Ok(None);
+    };
     if !records::flags_ok(&bytes) {
-        return Ok(false);
+        return Ok(None);
     }
-    let mut tail = [0u8; EVENT];
-    if !filled(input, &mut tail)? {
-        return Ok(false);
-    }
-    let s = records::state_of(&bytes);
-    let c = Config { state: s };
+    let Some(tail) = take::<{ EVENT }>(input)? else {
+        return Ok(None);
+    };
+    let state = records::state_of(&bytes);
     let ev = octets::read::event_at(&tail, 0);
-    if kind == STEP {
-        answer_sent(output, c.step(ev))?;
-    } else {
-        answer_sent(output, c.onward(ev))?;
-    }
-    Ok(true)
+    Ok(Some(step(Config { state }, ev)))
 }
 
-fn request_answered(input: &mut Stdin, output: &mut Stdout) -> io::Result<bool> {
-    let mut first = [0u8; 1];
-    if !filled(input, &mut first)? {
-        return Ok(false);
+fn next_answer(input: &mut Stdin) -> io::Result<Option<Outcome>> {
+    let Some(first) = take::<1>(input)? else {
+        return Ok(None);
+    };
+    match Request::of(first[0]) {
+        Some(Request::Reset) => reset_answer(input),
+        Some(Request::Step) => step_answer(input, Config::step),
+        Some(Request::Onward) => step_answer(input, Config::onward),
+        None => Ok(None),
     }
-    let kind = first[0];
-    if kind == RESET {
-        return reset_answered(input, output);
-    }
-    if (kind == STEP) | (kind == ONWARD) {
-        return step_answered(input, output, kind);
-    }
-    Ok(false)
 }
 
 fn main(rt: HostRuntime) -> io::Result<()> {
     let mut input = rt.stdin();
     let mut output = rt.stdout();
-    for _ in 0..REQUESTS {
-        if !request_answered(&mut input, &mut output)? {
+    // An input holds fewer requests than this.
+    for _ in 0..u64::MAX {
+        let Some(a) = next_answer(&mut input)? else {
             break;
-        }
+        };
+        output.write_all(&records::answer_bytes(a.number, a.value, a.config.state))?;
     }
     Ok(())
 }

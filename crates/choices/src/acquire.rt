@@ -10,10 +10,8 @@ pub fn asks_from(purpose: u8, rights: u8) -> bool
     ensures { result ≡ asks_from purpose rights }
 {
     match purpose {
-        Purpose::NONE => false,
         Purpose::LOAD => rights == Rights::N,
-        Purpose::STORE => (rights == Rights::N) | (rights == Rights::B),
-        Purpose::EVICT => false,
+        Purpose::STORE => matches!(rights, Rights::N | Rights::B),
         _ => false,
     }
 }
@@ -24,15 +22,9 @@ pub fn acquire_for(purpose: u8, rights: u8) -> u8
     ensures { result ≡ acquire_for purpose rights }
 {
     match purpose {
-        Purpose::NONE => Message::EMPTY,
         Purpose::LOAD => Message::ACQUIRE_B,
-        Purpose::STORE => {
-            if rights == Rights::N {
-                return Message::ACQUIRE_T;
-            }
-            Message::ACQUIRE_U
-        }
-        Purpose::EVICT => Message::EMPTY,
+        Purpose::STORE if rights == Rights::N => Message::ACQUIRE_T,
+        Purpose::STORE => Message::ACQUIRE_U,
         _ => Message::EMPTY,
     }
 }
@@ -43,9 +35,7 @@ pub fn acquire_fits(a: u8, entry: u8) -> bool
     ensures { result ≡ acquire_fits a entry }
 {
     match a {
-        Message::EMPTY => false,
-        Message::ACQUIRE_B => entry == Entry::NONE,
-        Message::ACQUIRE_T => entry == Entry::NONE,
+        Message::ACQUIRE_B | Message::ACQUIRE_T => entry == Entry::NONE,
         Message::ACQUIRE_U => entry != Entry::TRUNK,
         _ => false,
     }
@@ -57,10 +47,8 @@ pub fn purpose_for(a: u8) -> u8
     ensures { result ≡ purpose_for a }
 {
     match a {
-        Message::EMPTY => Purpose::NONE,
         Message::ACQUIRE_B => Purpose::LOAD,
-        Message::ACQUIRE_T => Purpose::STORE,
-        Message::ACQUIRE_U => Purpose::STORE,
+        Message::ACQUIRE_T | Message::ACQUIRE_U => Purpose::STORE,
         _ => Purpose::NONE,
     }
 }
@@ -71,10 +59,8 @@ pub fn probed_for(purpose: u8, name: u8, requester: u8, entry: u8, child: u8) ->
     ensures { result ≡ probed_for purpose name requester entry child }
 {
     match purpose {
-        Purpose::NONE => false,
-        Purpose::LOAD => (name == Name::T) & (entry == Entry::TRUNK),
-        Purpose::STORE => (entry != Entry::NONE) & (child != requester),
-        Purpose::EVICT => false,
+        Purpose::LOAD => name == Name::T && entry == Entry::TRUNK,
+        Purpose::STORE => entry != Entry::NONE && child != requester,
         _ => false,
     }
 }

@@ -13,18 +13,15 @@ use rules::codes::{Entry, Message, Name, Purpose, Rights};
 pub fn grant_fits(purpose: u8, rights: u8, d: u8) -> bool
     ensures { result ≡ grant_fits purpose rights d }
 {
-    match purpose {
-        Purpose::NONE => false,
-        Purpose::LOAD => {
-            (rights == Rights::N) & ((d == Message::GRANT_DATA_B) | (d == Message::GRANT_DATA_T))
-        }
-        Purpose::STORE => {
-            (rights == Rights::B) & (d == Message::GRANT_T)
-                | (rights == Rights::N) & (d == Message::GRANT_DATA_T)
-        }
-        Purpose::EVICT => false,
-        _ => false,
-    }
+    matches!(
+        (purpose, rights, d),
+        (
+            Purpose::LOAD,
+            Rights::N,
+            Message::GRANT_DATA_B | Message::GRANT_DATA_T
+        ) | (Purpose::STORE, Rights::B, Message::GRANT_T)
+            | (Purpose::STORE, Rights::N, Message::GRANT_DATA_T)
+    )
 }
 
 // "data installed"
@@ -32,10 +29,7 @@ pub fn grant_fits(purpose: u8, rights: u8, d: u8) -> bool
 pub fn installed(d: u8, down: u64, value: u64) -> u64
     ensures { result ≡ installed d down value }
 {
-    if carries_down(d) {
-        return down;
-    }
-    value
+    if carries_down(d) { down } else { value }
 }
 
 // "load 0: named B, TT, TB; load 1: TT; store 1: Tip, other entries None, the requester's not Trunk"
@@ -43,16 +37,14 @@ pub fn installed(d: u8, down: u64, value: u64) -> u64
 pub fn may_grant(purpose: u8, choice: u8, name: u8, rights: u8, alone: bool, entry: u8) -> bool
     ensures { result ≡ may_grant purpose choice name rights alone entry }
 {
-    let reads = readable_name(name);
     match purpose {
-        Purpose::NONE => false,
         Purpose::LOAD => {
-            (choice == Event::SHARED) & reads | (choice == Event::SOLE) & (name == Name::TT)
+            choice == Event::SHARED && readable_name(name)
+                || choice == Event::SOLE && name == Name::TT
         }
         Purpose::STORE => {
-            (choice == Event::SOLE) & (rights == Rights::TIP) & alone & (entry != Entry::TRUNK)
+            choice == Event::SOLE && rights == Rights::TIP && alone && entry != Entry::TRUNK
         }
-        Purpose::EVICT => false,
         _ => false,
     }
 }
@@ -63,20 +55,10 @@ pub fn grant_for(purpose: u8, choice: u8, entry: u8) -> u8
     ensures { result ≡ grant_for purpose choice entry }
 {
     match purpose {
-        Purpose::NONE => Message::EMPTY,
-        Purpose::LOAD => {
-            if choice == Event::SHARED {
-                return Message::GRANT_DATA_B;
-            }
-            Message::GRANT_DATA_T
-        }
-        Purpose::STORE => {
-            if entry == Entry::BRANCH {
-                return Message::GRANT_T;
-            }
-            Message::GRANT_DATA_T
-        }
-        Purpose::EVICT => Message::EMPTY,
+        Purpose::LOAD if choice == Event::SHARED => Message::GRANT_DATA_B,
+        Purpose::LOAD => Message::GRANT_DATA_T,
+        Purpose::STORE if entry == Entry::BRANCH => Message::GRANT_T,
+        Purpose::STORE => Message::GRANT_DATA_T,
         _ => Message::EMPTY,
     }
 }
@@ -86,8 +68,5 @@ pub fn grant_for(purpose: u8, choice: u8, entry: u8) -> u8
 pub fn grant_value(d: u8, value: u64) -> u64
     ensures { result ≡ grant_value d value }
 {
-    if carries_down(d) {
-        return value;
-    }
-    0
+    if carries_down(d) { value } else { 0 }
 }

@@ -1,5 +1,5 @@
 // The decisions that the rows of document 01's event table make, on codes. Each is total and promises the definition of its
-// name in rules/specs, with one arm for each code.
+// name in rules/specs. `_` takes the other codes of the list and every byte outside it.
 #![tactic(auto)]
 
 pub mod acquire;

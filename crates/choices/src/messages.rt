@@ -9,72 +9,37 @@ use rules::codes::{Entry, Message, Rights};
 pub fn carries_up(c: u8) -> bool
     ensures { result ≡ carries_up c }
 {
-    match c {
-        Message::EMPTY => false,
-        Message::PROBE_ACK => false,
-        Message::PROBE_ACK_DATA => true,
-        Message::RELEASE => false,
-        Message::RELEASE_DATA => true,
-        _ => false,
-    }
+    matches!(c, Message::PROBE_ACK_DATA | Message::RELEASE_DATA)
 }
 
-// "data: value set, dirty": the parent installs the value.
-#[tactic(auto, unfolding(rules::specs::Messages::installs, words::specs::Vocab::choose))]
+// "data: value set, dirty": the parent installs the value, of each message that has one.
+#[tactic(auto, unfolding(rules::specs::Messages::installs, rules::specs::Messages::carries_up))]
 pub fn installs(c: u8) -> bool
     ensures { result ≡ installs c }
 {
-    match c {
-        Message::EMPTY => false,
-        Message::PROBE_ACK => false,
-        Message::PROBE_ACK_DATA => true,
-        Message::RELEASE => false,
-        Message::RELEASE_DATA => true,
-        _ => false,
-    }
+    carries_up(c)
 }
 
 // "data only from a Trunk entry"
-#[tactic(auto, unfolding(rules::specs::Messages::from_trunk, words::specs::Vocab::choose))]
+#[tactic(auto, unfolding(rules::specs::Messages::from_trunk, rules::specs::Messages::carries_up))]
 pub fn from_trunk(c: u8) -> bool
     ensures { result ≡ from_trunk c }
 {
-    match c {
-        Message::EMPTY => false,
-        Message::PROBE_ACK => false,
-        Message::PROBE_ACK_DATA => true,
-        Message::RELEASE => false,
-        Message::RELEASE_DATA => true,
-        _ => false,
-    }
+    carries_up(c)
 }
 
 #[tactic(auto, unfolding(rules::specs::Messages::is_probe_ack, words::specs::Vocab::choose))]
 pub fn is_probe_ack(c: u8) -> bool
     ensures { result ≡ is_probe_ack c }
 {
-    match c {
-        Message::EMPTY => false,
-        Message::PROBE_ACK => true,
-        Message::PROBE_ACK_DATA => true,
-        Message::RELEASE => false,
-        Message::RELEASE_DATA => false,
-        _ => false,
-    }
+    matches!(c, Message::PROBE_ACK | Message::PROBE_ACK_DATA)
 }
 
 #[tactic(auto, unfolding(rules::specs::Messages::is_release, words::specs::Vocab::choose))]
 pub fn is_release(c: u8) -> bool
     ensures { result ≡ is_release c }
 {
-    match c {
-        Message::EMPTY => false,
-        Message::PROBE_ACK => false,
-        Message::PROBE_ACK_DATA => false,
-        Message::RELEASE => true,
-        Message::RELEASE_DATA => true,
-        _ => false,
-    }
+    matches!(c, Message::RELEASE | Message::RELEASE_DATA)
 }
 
 // The message in D has a value.
@@ -82,14 +47,7 @@ pub fn is_release(c: u8) -> bool
 pub fn carries_down(d: u8) -> bool
     ensures { result ≡ carries_down d }
 {
-    match d {
-        Message::EMPTY => false,
-        Message::GRANT_T => false,
-        Message::GRANT_DATA_T => true,
-        Message::GRANT_DATA_B => true,
-        Message::RELEASE_ACK => false,
-        _ => false,
-    }
+    matches!(d, Message::GRANT_DATA_T | Message::GRANT_DATA_B)
 }
 
 // "B for GrantDataB, else Tip"
@@ -97,13 +55,10 @@ pub fn carries_down(d: u8) -> bool
 pub fn granted_rights(d: u8) -> u8
     ensures { result ≡ granted_rights d }
 {
-    match d {
-        Message::EMPTY => Rights::TIP,
-        Message::GRANT_T => Rights::TIP,
-        Message::GRANT_DATA_T => Rights::TIP,
-        Message::GRANT_DATA_B => Rights::B,
-        Message::RELEASE_ACK => Rights::TIP,
-        _ => Rights::TIP,
+    if d == Message::GRANT_DATA_B {
+        Rights::B
+    } else {
+        Rights::TIP
     }
 }
 
@@ -112,12 +67,9 @@ pub fn granted_rights(d: u8) -> u8
 pub fn entry_for(d: u8) -> u8
     ensures { result ≡ entry_for d }
 {
-    match d {
-        Message::EMPTY => Entry::TRUNK,
-        Message::GRANT_T => Entry::TRUNK,
-        Message::GRANT_DATA_T => Entry::TRUNK,
-        Message::GRANT_DATA_B => Entry::BRANCH,
-        Message::RELEASE_ACK => Entry::TRUNK,
-        _ => Entry::TRUNK,
+    if d == Message::GRANT_DATA_B {
+        Entry::BRANCH
+    } else {
+        Entry::TRUNK
     }
 }

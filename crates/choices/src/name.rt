@@ -9,24 +9,18 @@ use rules::codes::{Name, Rights};
 pub fn name_of(rights: u8, trunks: bool, branches: bool) -> u8
     ensures { result ≡ name_of rights trunks branches }
 {
-    if rights == Rights::TIP {
-        if trunks {
-            return Name::T;
-        }
-        if branches {
-            return Name::TB;
-        }
-        return Name::TT;
+    match rights {
+        Rights::TIP if trunks => Name::T,
+        Rights::TIP if branches => Name::TB,
+        Rights::TIP => Name::TT,
+        Rights::B => Name::B,
+        _ => Name::N,
     }
-    if rights == Rights::B {
-        return Name::B;
-    }
-    Name::N
 }
 
 // "Readable means named B, TT or TB."
 pub fn readable_name(name: u8) -> bool
     ensures { result ≡ readable_name name }
 {
-    (name == Name::B) | (name == Name::TT) | (name == Name::TB)
+    matches!(name, Name::B | Name::TT | Name::TB)
 }

@@ -11,14 +11,11 @@ pub fn cap_for(opened: bool, cap: u8, purpose: u8) -> u8
     ensures { result ≡ cap_for opened cap purpose }
 {
     if opened {
-        return cap;
-    }
-    match purpose {
-        Purpose::NONE => Cap::N,
-        Purpose::LOAD => Cap::B,
-        Purpose::STORE => Cap::N,
-        Purpose::EVICT => Cap::N,
-        _ => Cap::N,
+        cap
+    } else if purpose == Purpose::LOAD {
+        Cap::B
+    } else {
+        Cap::N
     }
 }
 
@@ -27,18 +24,7 @@ pub fn cap_for(opened: bool, cap: u8, purpose: u8) -> u8
 pub fn serves_probes(phase: u8) -> bool
     ensures { result ≡ serves_probes phase }
 {
-    match phase {
-        Phase::IDLE => true,
-        Phase::CLEAR => false,
-        Phase::ASK => false,
-        Phase::WAIT => true,
-        Phase::CONFIRM => false,
-        Phase::GIVE => false,
-        Phase::AWAIT => false,
-        Phase::LET_GO => false,
-        Phase::LEAVING => true,
-        _ => false,
-    }
+    matches!(phase, Phase::IDLE | Phase::WAIT | Phase::LEAVING)
 }
 
 // "Trunk entries for cap B, all not None for cap N"
@@ -47,7 +33,6 @@ pub fn probed_by(cap: u8, entry: u8) -> bool
     ensures { result ≡ probed_by cap entry }
 {
     match cap {
-        Cap::NONE => false,
         Cap::B => entry == Entry::TRUNK,
         Cap::N => entry != Entry::NONE,
         _ => false,
@@ -60,9 +45,8 @@ pub fn cap_met(cap: u8, bare: bool, some_trunk: bool) -> bool
     ensures { result ≡ cap_met cap bare some_trunk }
 {
     match cap {
-        Cap::NONE => false,
-        Cap::B => !some_trunk,
         Cap::N => bare,
+        Cap::B => !some_trunk,
         _ => false,
     }
 }
@@ -72,12 +56,7 @@ pub fn cap_met(cap: u8, bare: bool, some_trunk: bool) -> bool
 pub fn cap_rights(cap: u8) -> u8
     ensures { result ≡ cap_rights cap }
 {
-    match cap {
-        Cap::NONE => Rights::N,
-        Cap::B => Rights::B,
-        Cap::N => Rights::N,
-        _ => Rights::N,
-    }
+    if cap == Cap::B { Rights::B } else { Rights::N }
 }
 
 // "rights fall to the cap if above it"
@@ -85,11 +64,7 @@ pub fn cap_rights(cap: u8) -> u8
 pub fn fallen(cap: u8, rights: u8) -> u8
     ensures { result ≡ fallen cap rights }
 {
-    let most = cap_rights(cap);
-    if rights <= most {
-        return rights;
-    }
-    most
+    rights.min(cap_rights(cap))
 }
 
 // "carries the value exactly if dirty"
@@ -97,10 +72,7 @@ pub fn fallen(cap: u8, rights: u8) -> u8
 pub fn carried(dirty: bool, value: u64) -> u64
     ensures { result ≡ carried dirty value }
 {
-    if dirty {
-        return value;
-    }
-    0
+    if dirty { value } else { 0 }
 }
 
 #[tactic(auto, unfolding(rules::specs::Probe::probe_ack_for, words::specs::Vocab::choose))]
@@ -108,9 +80,10 @@ pub fn probe_ack_for(dirty: bool) -> u8
     ensures { result ≡ probe_ack_for dirty }
 {
     if dirty {
-        return Message::PROBE_ACK_DATA;
+        Message::PROBE_ACK_DATA
+    } else {
+        Message::PROBE_ACK
     }
-    Message::PROBE_ACK
 }
 
 // "data only from a Trunk entry"
@@ -118,6 +91,5 @@ pub fn probe_ack_for(dirty: bool) -> u8
 pub fn data_fits(c: u8, entry: u8) -> bool
     ensures { result ≡ data_fits c entry }
 {
-    let bound = from_trunk(c);
-    !bound | (entry == Entry::TRUNK)
+    !from_trunk(c) || entry == Entry::TRUNK
 }

@@ -10,9 +10,10 @@ pub fn release_for(dirty: bool) -> u8
     ensures { result ≡ release_for dirty }
 {
     if dirty {
-        return Message::RELEASE_DATA;
+        Message::RELEASE_DATA
+    } else {
+        Message::RELEASE
     }
-    Message::RELEASE
 }
 
 // "not in Await for this child" is this, negated.
@@ -20,5 +21,5 @@ pub fn release_for(dirty: bool) -> u8
 pub fn awaits(phase: u8, requester: u8, child: u8) -> bool
     ensures { result ≡ awaits phase requester child }
 {
-    (phase == Phase::AWAIT) & (requester == child)
+    phase == Phase::AWAIT && requester == child
 }

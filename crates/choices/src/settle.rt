@@ -12,19 +12,10 @@ pub fn next_phase(purpose: u8, rights: u8) -> u8
     ensures { result ≡ next_phase purpose rights }
 {
     match purpose {
-        Purpose::NONE => Phase::CLEAR,
-        Purpose::LOAD => {
-            if rights == Rights::N {
-                return Phase::ASK;
-            }
-            Phase::GIVE
-        }
-        Purpose::STORE => {
-            if rights == Rights::TIP {
-                return Phase::GIVE;
-            }
-            Phase::ASK
-        }
+        Purpose::LOAD if rights != Rights::N => Phase::GIVE,
+        Purpose::LOAD => Phase::ASK,
+        Purpose::STORE if rights == Rights::TIP => Phase::GIVE,
+        Purpose::STORE => Phase::ASK,
         Purpose::EVICT => Phase::LET_GO,
         _ => Phase::CLEAR,
     }
@@ -36,14 +27,13 @@ pub fn next_phase(purpose: u8, rights: u8) -> u8
 pub fn phase_after(both_empty: bool, new: bool, phase: u8, purpose: u8, rights: u8) -> u8
     ensures { result ≡ phase_after both_empty new phase purpose rights }
 {
-    let ends = both_empty & (new | (phase == Phase::CLEAR));
-    if ends {
-        return next_phase(purpose, rights);
+    if both_empty && (new || phase == Phase::CLEAR) {
+        next_phase(purpose, rights)
+    } else if new {
+        Phase::CLEAR
+    } else {
+        phase
     }
-    if new {
-        return Phase::CLEAR;
-    }
-    phase
 }
 
 // The phase of a node once its kind has settled as its row says.

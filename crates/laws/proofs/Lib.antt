@@ -3,3 +3,5 @@ pub mod Refusals
 pub mod Onward
 pub mod Values
 pub mod ResetTree
+pub mod Results
+pub mod NoKind

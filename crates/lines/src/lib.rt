@@ -1,116 +1,89 @@
-// The lines that document 01 prints, put into a lent buffer. Each function writes from `at` on, as far as the buffer goes, and
-// answers the place after its text.
+// The lines that document 01 prints, put on a page.
 #![tactic(auto)]
 
-ghost use Rattle.std.specs.Prelude.{◌<◌};
-ghost use Rattle.octets.specs.Written.{Wrote};
-ghost use Rattle.lines.specs.Lines.{field, asked, line, name_text, name_line, names_by, end_line, bad_line};
+ghost use Rattle.octets.specs.Written.{Adds};
+ghost use Rattle.lines.specs.Lines.{decimal, field, line, name_text, name_line, names_by, end_line, bad_line};
 
-use names::name_by;
-use octets::limits::least;
-use octets::put::{put_byte, put_bytes};
+use names::named;
+use octets::page::Page;
 use rules::codes::Name;
 use rules::{Event, State};
 
-// A number of one digit, as most are, and the byte after it.
-fn put_digit(out: &mut [u8], at: usize, n: u64, after: u8) -> usize
-    requires { n < 10 }
-    ensures { Wrote out.old at (field n after) out.new result }
-{
-    let p = put_byte(out, at, b'0' + n as u8);
-    put_byte(out, p, after)
-}
-
-// A number in decimal, and the byte after it.
-fn put_number(out: &mut [u8], at: usize, n: u64, after: u8) -> usize
-    ensures { Wrote out.old at (field n after) out.new result }
+// A number in decimal. Most have one digit.
+#[tactic(auto, using(crate::proofs::Decimal::digit_text, crate::proofs::Decimal::digits_text))]
+fn put_decimal(page: &mut Page, n: u64)
+    ensures { Adds page.old (decimal n) page.new }
 {
     if n < 10 {
-        return put_digit(out, at, n, after);
+        page.byte(b'0' + n as u8);
+        return;
     }
-    put_digits(out, at, n, after)
-}
-
-// The same of any number.
-fn put_digits(out: &mut [u8], at: usize, n: u64, after: u8) -> usize
-    ensures { Wrote out.old at (field n after) out.new result }
-{
     let mut digits = [0u8; 20];
     let k = io::decimal(n, &mut digits);
-    let p = put_bytes(out, at, &digits[..k]);
-    put_byte(out, p, after)
+    page.bytes(&digits[..k]);
 }
 
-// What was asked: the index, the kind and the node.
-fn put_asked(out: &mut [u8], at: usize, index: u64, ev: Event) -> usize
-    ensures { Wrote out.old at (asked index ev.kind ev.node) out.new result }
+// A number, and the byte after it.
+#[tactic(auto, using(octets::proofs::Pages::puts), unfolding(crate::specs::Lines::field))]
+fn put_number(page: &mut Page, n: u64, after: u8)
+    ensures { Adds page.old (field n after) page.new }
 {
-    let p = put_number(out, at, index, b' ');
-    let q = put_number(out, p, ev.kind as u64, b' ');
-    put_number(out, q, ev.node as u64, b' ')
+    put_decimal(page, n);
+    page.byte(after);
 }
 
 // The line of an event: what was asked, and the answer.
-pub fn put_line(out: &mut [u8], at: usize, index: u64, ev: Event, number: u8, value: u64) -> usize
-    ensures { Wrote out.old at (line index ev.kind ev.node number value) out.new result }
+#[tactic(auto, using(octets::proofs::Pages::puts), unfolding(crate::specs::Lines::line, crate::specs::Lines::asked))]
+pub fn put_line(page: &mut Page, index: u64, ev: Event, number: u8, value: u64)
+    ensures { Adds page.old (line index ev.kind ev.node number value) page.new }
 {
-    let p = put_asked(out, at, index, ev);
-    let q = put_number(out, p, number as u64, b' ');
-    put_number(out, q, value, b'\n')
+    put_number(page, index, b' ');
+    put_number(page, u64::from(ev.kind), b' ');
+    put_number(page, u64::from(ev.node), b' ');
+    put_number(page, u64::from(number), b' ');
+    put_number(page, value, b'\n');
 }
 
 // The name of a node, after a space.
-#[tactic(auto, unfolding(crate::specs::Lines::name_text))]
-fn put_name(out: &mut [u8], at: usize, name: u8) -> usize
-    ensures { Wrote out.old at (name_text name) out.new result }
+#[tactic(auto, using(octets::proofs::Pages::puts), unfolding(crate::specs::Lines::name_text))]
+fn put_name(page: &mut Page, name: u8)
+    ensures { Adds page.old (name_text name) page.new }
 {
     match name {
-        Name::N => put_bytes(out, at, b" N"),
-        Name::B => put_bytes(out, at, b" B"),
-        Name::T => put_bytes(out, at, b" T"),
-        Name::TB => put_bytes(out, at, b" TB"),
-        Name::TT => put_bytes(out, at, b" TT"),
-        _ => least(at, out.len()),
+        Name::N => page.bytes(b" N"),
+        Name::B => page.bytes(b" B"),
+        Name::T => page.bytes(b" T"),
+        Name::TB => page.bytes(b" TB"),
+        Name::TT => page.bytes(b" TT"),
+        _ => {}
     }
 }
 
-// The names of the first n nodes, one after the other.
-fn put_names<'a>(
-    out: &mut [u8],
-    at: usize,
-    n: u8,
-    rights: &'a [u8; State::NODES],
-    entries: &'a [u8; State::CELLS],
-) -> usize
-    ensures { Wrote out.old at (name_line (names_by rights.now entries.now n)) out.new result }
+// The names of the nodes, one after the other.
+#[tactic(auto, using(octets::proofs::Pages::puts, crate::proofs::Composing::naming))]
+fn put_names(page: &mut Page, s: &State)
+    ensures { Adds page.old (name_line (names_by s.now.rights s.now.entries s.now.count)) page.new }
 {
-    let mut p = least(at, out.len());
-    for x in 0..n {
-        let name = name_by(rights, entries, x);
-        p = put_name(out, p, name);
+    for x in 0..s.count {
+        put_name(page, named(s, x));
     }
-    p
 }
 
 // "`end` and the node names in order"
-pub fn put_end<'a>(
-    out: &mut [u8],
-    at: usize,
-    n: u8,
-    rights: &'a [u8; State::NODES],
-    entries: &'a [u8; State::CELLS],
-) -> usize
-    ensures { Wrote out.old at (end_line (names_by rights.now entries.now n)) out.new result }
+#[tactic(auto, using(octets::proofs::Pages::puts), unfolding(crate::specs::Lines::end_line))]
+pub fn put_end(page: &mut Page, s: &State)
+    ensures { Adds page.old (end_line (names_by s.now.rights s.now.entries s.now.count)) page.new }
 {
-    let p = put_bytes(out, at, b"end");
-    let q = put_names(out, p, n, rights, entries);
-    put_byte(out, q, b'\n')
+    page.bytes(b"end");
+    put_names(page, s);
+    page.byte(b'\n');
 }
 
 // "`bad P`"
-pub fn put_bad(out: &mut [u8], at: usize, offset: usize) -> usize
-    ensures { Wrote out.old at (bad_line offset) out.new result }
+#[tactic(auto, using(octets::proofs::Pages::puts), unfolding(crate::specs::Lines::bad_line))]
+pub fn put_bad(page: &mut Page, offset: usize)
+    ensures { Adds page.old (bad_line offset) page.new }
 {
-    let p = put_bytes(out, at, b"bad ");
-    put_number(out, p, offset as u64, b'\n')
+    page.bytes(b"bad ");
+    put_number(page, offset as u64, b'\n');
 }

@@ -4,10 +4,11 @@
 
 ghost use Rattle.std.specs.Prelude.{◌≡◌};
 ghost use Rattle.rules.specs.Names.{named};
+ghost use Rattle.rules.specs.Refusals.{answer_said};
 ghost use Rattle.rules.specs.Step.{reset_of, step_of, onward_of};
 ghost use Rattle.model.specs.Outcomes.{outcome_of};
 
-use rules::{Event, State};
+use rules::{Event, Refusal, State, told};
 
 #[derive(Clone, Copy)]
 pub struct Config {
@@ -21,14 +22,16 @@ pub struct Outcome {
     pub config: Config,
 }
 
-fn outcome_of(a: rules::Answer) -> Outcome
-    ensures { result ≡ outcome_of a }
-{
-    let state = a.state;
-    Outcome {
-        number: a.number,
-        value: a.value,
-        config: Config { state },
+impl Outcome {
+    fn of(answer: Result<u64, Refusal>, state: State) -> Outcome
+        ensures { result ≡ outcome_of (answer_said answer state) }
+    {
+        let (number, value) = told(answer);
+        Outcome {
+            number,
+            value,
+            config: Config { state },
+        }
     }
 }
 
@@ -37,33 +40,34 @@ impl Config {
     pub fn reset(count: u8, parents: [u8; State::NODES], first: u64) -> Outcome
         ensures { result ≡ outcome_of (reset_of count parents first) }
     {
-        let made = start::started(count, parents, first);
-        outcome_of(made)
+        match start::started(count, parents, first) {
+            Ok(state) => Outcome::of(Ok(0), state),
+            Err(refusal) => Outcome::of(Err(refusal), start::blank_state()),
+        }
     }
 
     // The step: numbers 1 to 5, the answer value, and the configuration after it.
     pub fn step(self, ev: Event) -> Outcome
         ensures { result ≡ outcome_of (step_of self.state ev) }
     {
-        let came = self.state;
-        let done = engine::stepped(came, ev);
-        outcome_of(done)
+        let mut state = self.state;
+        let done = engine::stepped(&mut state, ev);
+        Outcome::of(done, state)
     }
 
     // The step of a caller whose configuration came from reset by accepted steps: it leaves out the scan for number 2.
     pub fn onward(self, ev: Event) -> Outcome
         ensures { result ≡ outcome_of (onward_of self.state ev) }
     {
-        let came = self.state;
-        let gone = engine::onward(came, ev);
-        outcome_of(gone)
+        let mut state = self.state;
+        let gone = engine::onward(&mut state, ev);
+        Outcome::of(gone, state)
     }
 
     // The name of node x, by its code.
     pub fn name(self, x: u8) -> u8
         ensures { result ≡ named self.state x }
     {
-        let came = self.state;
-        engine::named(came, x)
+        engine::named(&self.state, x)
     }
 }

@@ -11,10 +11,7 @@ use rules::codes::{Message, Phase};
 pub fn send_acquire_needs(v: Scene) -> bool
     ensures { result ≡ send_acquire_needs v }
 {
-    let m = v.node;
-    let l = v.link;
-    let asks = asks_from(m.purpose, v.rights);
-    (m.phase == Phase::ASK) & (l.a == Message::EMPTY) & asks
+    v.node.phase == Phase::ASK && v.link.a == Message::EMPTY && asks_from(v.node.purpose, v.rights)
 }
 
 // 7 take Acquire | A full, main and probe idle, sets empty; AcquireB/T: child's entry None; AcquireU: not Trunk
@@ -22,8 +19,9 @@ pub fn send_acquire_needs(v: Scene) -> bool
 pub fn take_acquire_needs(v: Scene) -> bool
     ensures { result ≡ take_acquire_needs v }
 {
-    let m = v.node;
-    let l = v.link;
-    let fits = acquire_fits(l.a, v.entry);
-    (l.a != Message::EMPTY) & (m.phase == Phase::IDLE) & !m.probe & v.still & fits
+    v.link.a != Message::EMPTY
+        && v.node.phase == Phase::IDLE
+        && !v.node.probe
+        && v.still
+        && acquire_fits(v.link.a, v.entry)
 }

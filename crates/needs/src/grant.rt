@@ -12,10 +12,7 @@ use rules::codes::{Message, Phase};
 pub fn take_grant_needs(v: Scene) -> bool
     ensures { result ≡ take_grant_needs v }
 {
-    let m = v.node;
-    let l = v.link;
-    let fits = grant_fits(m.purpose, v.rights, l.d);
-    (m.phase == Phase::WAIT) & !m.probe & fits
+    v.node.phase == Phase::WAIT && !v.node.probe && grant_fits(v.node.purpose, v.rights, v.link.d)
 }
 
 // 13 send GrantAck | Confirm, E empty
@@ -23,9 +20,7 @@ pub fn take_grant_needs(v: Scene) -> bool
 pub fn send_grant_ack_needs(v: Scene) -> bool
     ensures { result ≡ send_grant_ack_needs v }
 {
-    let m = v.node;
-    let l = v.link;
-    (m.phase == Phase::CONFIRM) & (l.e == Message::EMPTY)
+    v.node.phase == Phase::CONFIRM && v.link.e == Message::EMPTY
 }
 
 // 14 send Grant | Give, requester's D empty; load 0: named B, TT, TB; load 1: TT; store 1: Tip, other entries None, the
@@ -34,11 +29,10 @@ pub fn send_grant_ack_needs(v: Scene) -> bool
 pub fn send_grant_needs(v: Scene, choice: u8) -> bool
     ensures { result ≡ send_grant_needs v choice }
 {
-    let m = v.node;
-    let l = v.link;
     let name = name_in(v);
-    let may = may_grant(m.purpose, choice, name, v.rights, v.alone, v.entry);
-    (m.phase == Phase::GIVE) & (l.d == Message::EMPTY) & may
+    v.node.phase == Phase::GIVE
+        && v.link.d == Message::EMPTY
+        && may_grant(v.node.purpose, choice, name, v.rights, v.alone, v.entry)
 }
 
 // 15 take GrantAck | Await, requester's E full
@@ -46,7 +40,5 @@ pub fn send_grant_needs(v: Scene, choice: u8) -> bool
 pub fn take_grant_ack_needs(v: Scene) -> bool
     ensures { result ≡ take_grant_ack_needs v }
 {
-    let m = v.node;
-    let l = v.link;
-    (m.phase == Phase::AWAIT) & (l.e != Message::EMPTY)
+    v.node.phase == Phase::AWAIT && v.link.e != Message::EMPTY
 }

@@ -2,12 +2,13 @@
 ghost use Rattle.std.specs.Prelude.{◌≡◌};
 ghost use Rattle.needs.specs.Judged.{event_in, turn_in, number_in};
 ghost use Rattle.rules.specs.Events.{other_fits, value_fits, place_fits};
+ghost use Rattle.rules.specs.Refusals.{number_said};
 ghost use Rattle.rules.specs.Step.{link_there};
 ghost use Rattle.rules.specs.Table.{is_kind};
 
 use crate::needs_hold;
 use rules::kinds::{End, Other, Place, Row, Value};
-use rules::{Answer, Event, Scene, State};
+use rules::{Event, Refusal, Scene, State};
 use trees::is_child;
 
 // "kind not 1..19": a number that no row has.
@@ -15,28 +16,28 @@ use trees::is_child;
 fn is_kind(kind: u8) -> bool
     ensures { result ≡ is_kind kind }
 {
-    match kind {
-        Event::LOAD => true,
-        Event::STORE => true,
-        Event::LOAD_MISS => true,
-        Event::STORE_MISS => true,
-        Event::EVICT => true,
-        Event::SEND_ACQUIRE => true,
-        Event::TAKE_ACQUIRE => true,
-        Event::SEND_PROBE => true,
-        Event::TAKE_PROBE => true,
-        Event::SEND_PROBE_ACK => true,
-        Event::TAKE_PROBE_ACK => true,
-        Event::TAKE_GRANT => true,
-        Event::SEND_GRANT_ACK => true,
-        Event::SEND_GRANT => true,
-        Event::TAKE_GRANT_ACK => true,
-        Event::SEND_RELEASE => true,
-        Event::TAKE_RELEASE => true,
-        Event::SEND_RELEASE_ACK => true,
-        Event::TAKE_RELEASE_ACK => true,
-        _ => false,
-    }
+    matches!(
+        kind,
+        Event::LOAD
+            | Event::STORE
+            | Event::LOAD_MISS
+            | Event::STORE_MISS
+            | Event::EVICT
+            | Event::SEND_ACQUIRE
+            | Event::TAKE_ACQUIRE
+            | Event::SEND_PROBE
+            | Event::TAKE_PROBE
+            | Event::SEND_PROBE_ACK
+            | Event::TAKE_PROBE_ACK
+            | Event::TAKE_GRANT
+            | Event::SEND_GRANT_ACK
+            | Event::SEND_GRANT
+            | Event::TAKE_GRANT_ACK
+            | Event::SEND_RELEASE
+            | Event::TAKE_RELEASE
+            | Event::SEND_RELEASE_ACK
+            | Event::TAKE_RELEASE_ACK
+    )
 }
 
 // "other not as named"
@@ -81,69 +82,44 @@ fn link_there(end: End, child: bool) -> bool
 {
     match end {
         End::Own => true,
-        End::Named => child,
-        End::Requester => child,
-        End::Noted => child,
+        End::Named | End::Requester | End::Noted => child,
     }
 }
 
 // Number 3, with the row of the kind.
-fn event_ok(count: u8, parents: &[u8; State::NODES], row: Row, ev: Event) -> bool
-    ensures { result ≡ event_in count parents.now row ev }
+fn event_ok(s: &State, row: Row, ev: Event) -> bool
+    ensures { result ≡ event_in s.now row ev }
 {
-    let known = is_kind(ev.kind);
-    let child = is_child(count, parents, ev.node, ev.other);
-    let may = row.other;
-    let other = other_fits(may, child, ev.other);
-    let takes = row.value;
-    let value = value_fits(takes, ev.value);
-    known & (ev.node < count) & other & value
+    let child = is_child(s, ev.node, ev.other);
+    is_kind(ev.kind)
+        && ev.node < s.count
+        && other_fits(row.other, child, ev.other)
+        && value_fits(row.value, ev.value)
 }
 
 // Number 5, at the scene of node x and the link of j.
-fn turn_ok(
-    count: u8,
-    parents: &[u8; State::NODES],
-    row: Row,
-    v: Scene,
-    x: u8,
-    j: u8,
-    ev: Event,
-) -> bool
-    ensures { result ≡ turn_in count parents.now row v x j ev }
+fn turn_ok(s: &State, row: Row, v: Scene, x: u8, j: u8, ev: Event) -> bool
+    ensures { result ≡ turn_in s.now row v x j ev }
 {
-    let child = is_child(count, parents, x, j);
-    let end = row.end;
-    let there = link_there(end, child);
-    let needs = needs_hold(v, ev);
-    there & needs
+    link_there(row.end, is_child(s, x, j)) && needs_hold(v, ev)
 }
 
 // Number 1 is looked for as far as the arrays reach: a caller whose tree is good pays no more for it.
-#[tactic(auto, unfolding(crate::specs::Judged::number_in))]
-pub fn judged(
-    count: u8,
-    parents: &[u8; State::NODES],
-    row: Row,
-    v: Scene,
-    x: u8,
-    j: u8,
-    ev: Event,
-) -> u8
-    ensures { result ≡ number_in count parents.now row v x j ev }
+#[tactic(auto, unfolding(crate::specs::Judged::number_in, rules::specs::Step::first_of, words::specs::Vocab::choose))]
+pub fn judged(s: &State, row: Row, v: Scene, x: u8, j: u8, ev: Event) -> Result<(), Refusal>
+    ensures { number_said result ≡ number_in s.now row v x j ev }
 {
-    if count as usize > State::NODES {
-        return Answer::BAD_TREE;
+    if usize::from(s.count) > State::NODES {
+        return Err(Refusal::BadTree);
     }
-    if !event_ok(count, parents, row, ev) {
-        return Answer::BAD_EVENT;
+    if !event_ok(s, row, ev) {
+        return Err(Refusal::BadEvent);
     }
-    let place = row.place;
-    if !place_fits(place, v.leaf, ev.node) {
-        return Answer::WRONG_PLACE;
+    if !place_fits(row.place, v.leaf, ev.node) {
+        return Err(Refusal::WrongPlace);
     }
-    if !turn_ok(count, parents, row, v, x, j, ev) {
-        return Answer::OUT_OF_TURN;
+    if !turn_ok(s, row, v, x, j, ev) {
+        return Err(Refusal::OutOfTurn);
     }
-    Answer::ACCEPTED
+    Ok(())
 }

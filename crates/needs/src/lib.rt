@@ -20,8 +20,7 @@ mod scenes;
 pub fn needs_hold(v: Scene, ev: Event) -> bool
     ensures { result ≡ (kind_of ev.kind).needs v ev }
 {
-    let kind = ev.kind;
-    match kind {
+    match ev.kind {
         Event::LOAD => local::load_needs(v),
         Event::STORE => local::store_needs(v),
         Event::LOAD_MISS => local::load_miss_needs(v),

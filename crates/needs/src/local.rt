@@ -11,9 +11,7 @@ use rules::codes::{Name, Rights};
 pub fn load_needs(v: Scene) -> bool
     ensures { result ≡ load_needs v }
 {
-    let name = name_in(v);
-    let quiet = all_idle(v.node);
-    ((name == Name::B) | (name == Name::TT)) & quiet
+    matches!(name_in(v), Name::B | Name::TT) && all_idle(v.node)
 }
 
 // 2 store | leaf TT, all idle
@@ -21,9 +19,7 @@ pub fn load_needs(v: Scene) -> bool
 pub fn store_needs(v: Scene) -> bool
     ensures { result ≡ store_needs v }
 {
-    let name = name_in(v);
-    let quiet = all_idle(v.node);
-    (name == Name::TT) & quiet
+    name_in(v) == Name::TT && all_idle(v.node)
 }
 
 // 3 load miss | leaf N, all idle
@@ -31,8 +27,7 @@ pub fn store_needs(v: Scene) -> bool
 pub fn load_miss_needs(v: Scene) -> bool
     ensures { result ≡ load_miss_needs v }
 {
-    let quiet = all_idle(v.node);
-    (v.rights == Rights::N) & quiet
+    v.rights == Rights::N && all_idle(v.node)
 }
 
 // 4 store miss | leaf N or B, all idle
@@ -40,8 +35,7 @@ pub fn load_miss_needs(v: Scene) -> bool
 pub fn store_miss_needs(v: Scene) -> bool
     ensures { result ≡ store_miss_needs v }
 {
-    let quiet = all_idle(v.node);
-    ((v.rights == Rights::N) | (v.rights == Rights::B)) & quiet
+    matches!(v.rights, Rights::N | Rights::B) && all_idle(v.node)
 }
 
 // 5 evict | not N, all idle, both sets empty
@@ -49,6 +43,5 @@ pub fn store_miss_needs(v: Scene) -> bool
 pub fn evict_needs(v: Scene) -> bool
     ensures { result ≡ evict_needs v }
 {
-    let quiet = all_idle(v.node);
-    (v.rights != Rights::N) & quiet & v.still
+    v.rights != Rights::N && all_idle(v.node) && v.still
 }

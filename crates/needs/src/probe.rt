@@ -12,8 +12,7 @@ use rules::codes::{Child, Message, Phase};
 pub fn send_probe_needs(v: Scene) -> bool
     ensures { result ≡ send_probe_needs v }
 {
-    let l = v.link;
-    v.to_probe & (l.b == Message::EMPTY)
+    v.to_probe && v.link.b == Message::EMPTY
 }
 
 // 9 take Probe | B full, probe idle, sets empty, main Idle, Wait or Leaving
@@ -21,10 +20,7 @@ pub fn send_probe_needs(v: Scene) -> bool
 pub fn take_probe_needs(v: Scene) -> bool
     ensures { result ≡ take_probe_needs v }
 {
-    let m = v.node;
-    let l = v.link;
-    let serves = serves_probes(m.phase);
-    (l.b != Message::EMPTY) & !m.probe & v.still & serves
+    v.link.b != Message::EMPTY && !v.node.probe && v.still && serves_probes(v.node.phase)
 }
 
 // 10 send ProbeAck | probe open, sets empty, release idle, main not Leaving, C empty; cap N: all entries None; cap B: none Trunk
@@ -32,15 +28,12 @@ pub fn take_probe_needs(v: Scene) -> bool
 pub fn send_probe_ack_needs(v: Scene) -> bool
     ensures { result ≡ send_probe_ack_needs v }
 {
-    let m = v.node;
-    let l = v.link;
-    let met = cap_met(m.cap, v.bare, v.trunk);
-    m.probe
-        & v.still
-        & (m.release == Child::NONE)
-        & (m.phase != Phase::LEAVING)
-        & (l.c == Message::EMPTY)
-        & met
+    v.node.probe
+        && v.still
+        && v.node.release == Child::NONE
+        && v.node.phase != Phase::LEAVING
+        && v.link.c == Message::EMPTY
+        && cap_met(v.node.cap, v.bare, v.trunk)
 }
 
 // 11 take ProbeAck | C holds one, child pending, kept not above entry; data only from a Trunk entry
@@ -48,8 +41,5 @@ pub fn send_probe_ack_needs(v: Scene) -> bool
 pub fn take_probe_ack_needs(v: Scene) -> bool
     ensures { result ≡ take_probe_ack_needs v }
 {
-    let l = v.link;
-    let acks = is_probe_ack(l.c);
-    let fits = data_fits(l.c, v.entry);
-    acks & v.pending & (l.kept <= v.entry) & fits
+    is_probe_ack(v.link.c) && v.pending && v.link.kept <= v.entry && data_fits(v.link.c, v.entry)
 }

@@ -13,13 +13,11 @@ use rules::codes::{Child, Entry, Message, Phase, Rights};
 pub fn send_release_needs(v: Scene) -> bool
     ensures { result ≡ send_release_needs v }
 {
-    let m = v.node;
-    let l = v.link;
-    (m.phase == Phase::LET_GO)
-        & (m.release == Child::NONE)
-        & (l.c == Message::EMPTY)
-        & v.bare
-        & (v.rights != Rights::N)
+    v.node.phase == Phase::LET_GO
+        && v.node.release == Child::NONE
+        && v.link.c == Message::EMPTY
+        && v.bare
+        && v.rights != Rights::N
 }
 
 // 17 take Release | C holds one, release idle, entry not None, not in Await for this child; data only from Trunk
@@ -27,12 +25,11 @@ pub fn send_release_needs(v: Scene) -> bool
 pub fn take_release_needs(v: Scene, child: u8) -> bool
     ensures { result ≡ take_release_needs v child }
 {
-    let m = v.node;
-    let l = v.link;
-    let releases = is_release(l.c);
-    let granting = awaits(m.phase, m.requester, child);
-    let fits = data_fits(l.c, v.entry);
-    releases & (m.release == Child::NONE) & (v.entry != Entry::NONE) & !granting & fits
+    is_release(v.link.c)
+        && v.node.release == Child::NONE
+        && v.entry != Entry::NONE
+        && !awaits(v.node.phase, v.node.requester, child)
+        && data_fits(v.link.c, v.entry)
 }
 
 // 18 send ReleaseAck | release open, child's D empty
@@ -40,9 +37,7 @@ pub fn take_release_needs(v: Scene, child: u8) -> bool
 pub fn send_release_ack_needs(v: Scene) -> bool
     ensures { result ≡ send_release_ack_needs v }
 {
-    let m = v.node;
-    let l = v.link;
-    (m.release != Child::NONE) & (l.d == Message::EMPTY)
+    v.node.release != Child::NONE && v.link.d == Message::EMPTY
 }
 
 // 19 take ReleaseAck | Leaving, D holds it
@@ -50,7 +45,5 @@ pub fn send_release_ack_needs(v: Scene) -> bool
 pub fn take_release_ack_needs(v: Scene) -> bool
     ensures { result ≡ take_release_ack_needs v }
 {
-    let m = v.node;
-    let l = v.link;
-    (m.phase == Phase::LEAVING) & (l.d == Message::RELEASE_ACK)
+    v.node.phase == Phase::LEAVING && v.link.d == Message::RELEASE_ACK
 }

@@ -17,5 +17,5 @@ pub fn name_in(v: Scene) -> u8
 pub fn all_idle(m: Node) -> bool
     ensures { result ≡ all_idle m }
 {
-    (m.phase == Phase::IDLE) & !m.probe & (m.release == Child::NONE)
+    m.phase == Phase::IDLE && !m.probe && m.release == Child::NONE
 }

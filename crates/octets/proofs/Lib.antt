@@ -1,4 +1,5 @@
--- Laws of bytes: how a loop reads and writes them, and that what is written is what is read.
+-- Laws of bytes: how they are read and written, and that what is written is what is read.
 pub mod BytesRead
 pub mod BytesWritten
+pub mod Pages
 pub mod VersionRows

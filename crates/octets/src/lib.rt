@@ -3,5 +3,6 @@
 #![tactic(auto)]
 
 pub mod limits;
-pub mod put;
+pub mod page;
 pub mod read;
+mod write;

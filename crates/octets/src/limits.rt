@@ -1,5 +1,5 @@
 // How far a record may reach, and what a version allows.
-ghost use Rattle.std.specs.Prelude.{◌≡◌, min};
+ghost use Rattle.std.specs.Prelude.{◌≡◌};
 ghost use Rattle.octets.specs.Prefixed.{reach};
 ghost use Rattle.octets.specs.Versions.{longest_first};
 
@@ -11,32 +11,20 @@ pub const PREFIX: usize = 2;
 
 pub const EVENT: usize = 11;
 
-pub fn least(a: usize, b: usize) -> usize
-    ensures { result ≡ min a b }
-{
-    if a < b { a } else { b }
-}
-
 // How far a record may reach: no further than the input and the window.
 pub fn reach(s: &[u8]) -> usize
     ensures { result ≡ reach s.now }
 {
-    least(s.len(), WINDOW)
+    s.len().min(WINDOW)
 }
 
-// The longest first record of each version from 0 on, and how many rows that is. No trail has version 0.
-const VERSIONS: usize = 2;
-
-const LONGESTS: [u64; VERSIONS] = [0, 23];
+// The longest first record of each version from 0 on. No trail has version 0.
+const LONGESTS: [u64; 2] = [0, 23];
 
 // The longest first record of a trail of the version, 0 where there is no such version.
 #[tactic(auto, unfolding(crate::specs::Versions::longest_first))]
 pub fn longest_first(version: u8) -> u64
     ensures { result ≡ longest_first version }
 {
-    let v = version as usize;
-    if v < VERSIONS {
-        return LONGESTS[v];
-    }
-    0
+    LONGESTS.get(usize::from(version)).copied().unwrap_or(0)
 }

@@ -1,61 +1,41 @@
 // What bytes say.
-ghost use Rattle.std.specs.Prelude.{◌≡◌, ◌<◌, ◌≤◌, drop};
+ghost use Rattle.std.specs.Prelude.{◌≡◌, drop};
 ghost use Rattle.octets.specs.BigEndian.{byte, number, word};
 ghost use Rattle.octets.specs.Fields.{flag_at, flag_ok, event_at};
 ghost use Rattle.octets.specs.Prefixed.{length_at};
 
 use rules::Event;
-
-// A byte as a number.
-fn wide(x: u8) -> u64
-    ensures { (result ≡ x) × (result < 256) }
-{
-    x as u64
-}
+use std::array;
 
 pub fn byte_at(s: &[u8], at: usize) -> u8
     ensures { result ≡ byte s.now at }
 {
-    if at < s.len() {
-        return s[at];
-    }
-    0
+    s.get(at).copied().unwrap_or(0)
 }
 
 // The bytes from `at` on.
 pub fn rest(s: &[u8], at: usize) -> &[u8]
     ensures { result.now ≡ drop at s.now }
 {
-    if at < s.len() {
-        return &s[at..];
-    }
-    &s[s.len()..]
-}
-
-// The big-endian number in the first n bytes.
-fn number(s: &[u8], n: usize) -> u64
-    requires { n ≤ 8 }
-    ensures { result ≡ number s.now 0 n }
-{
-    let mut v: u64 = 0;
-    for k in 0..n {
-        v = v * 256 + wide(byte_at(s, k));
-    }
-    v
+    s.get(at..).unwrap_or(&[])
 }
 
 // The number in the eight bytes from `at` on.
+#[tactic(auto, using(crate::proofs::BytesRead::rests), unfolding(crate::specs::BigEndian::number))]
 pub fn word_at(s: &[u8], at: usize) -> u64
     ensures { result ≡ word s.now at }
 {
-    number(rest(s, at), 8)
+    let t = rest(s, at);
+    u64::from_be_bytes(array::from_fn(|k| byte_at(t, k)))
 }
 
 // The length of a record that starts at `at`.
+#[tactic(auto, using(crate::proofs::BytesRead::rests), unfolding(crate::specs::BigEndian::number))]
 pub fn length_at(s: &[u8], at: usize) -> u64
     ensures { result ≡ length_at s.now at }
 {
-    number(rest(s, at), 2)
+    let t = rest(s, at);
+    u16::from_be_bytes([byte_at(t, 0), byte_at(t, 1)]) as u64
 }
 
 pub fn flag_at(s: &[u8], at: usize) -> bool
@@ -72,18 +52,15 @@ pub fn flag_ok(s: &[u8], at: usize) -> bool
 }
 
 // The event in the eleven bytes from `at` on.
+#[tactic(auto, using(crate::proofs::BytesRead::rests), unfolding(crate::specs::Fields::event_at))]
 pub fn event_at(s: &[u8], at: usize) -> Event
     ensures { result ≡ event_at s.now at }
 {
     let t = rest(s, at);
-    let kind = byte_at(t, 0);
-    let node = byte_at(t, 1);
-    let other = byte_at(t, 2);
-    let value = word_at(t, 3);
     Event {
-        kind,
-        node,
-        other,
-        value,
+        kind: byte_at(t, 0),
+        node: byte_at(t, 1),
+        other: byte_at(t, 2),
+        value: word_at(t, 3),
     }
 }

@@ -1,2 +1,2 @@
-pub mod Landing
+-- What the code of an event meets, and of the step.
 pub mod Moving

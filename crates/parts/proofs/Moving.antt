@@ -1,67 +1,49 @@
--- An event on the parts of a configuration is the event on the configuration.
-use mathlib.Core.Path.{◌≡◌, refl, sym, ◌∙◌, ap}
+-- What `act` does is the event of the definitions; and the step, by the tests of the code.
+use mathlib.Core.Path.{◌≡◌, ap, refl, sym, ◌∙◌}
 use mathlib.Core.Bool.{Bool, true, false, not, ◌&&◌, and-false}
 use mathlib.Core.Logic.{◌≢◌, ◌⊎◌, inl, inr}
-use mathlib.Core.List.{List, [], ◌∷◌}
+use mathlib.Core.List.{[], ◌∷◌}
 use Prim.Native.Nat.{ℕ, ◌<◌, ◌≤◌}
 use native.Mathlib.Decide.{dec_lt}
 use native.Mathlib.Omega.{arith}
 use borrow.Author.Tests.{leb-true, ltb-true, lt-ltb, le-ltb, ne_eqb}
-use lib.ListN.{set, get_or}
-use lib.Seq.{set-get_or}
+use lib.ListN.{get_or}
 use lib.Dec.{eqb, leb, ltb}
 use Rattle.words.specs.Vocab.{choose}
 use Rattle.words.proofs.Meeting.{tests}
 use Rattle.words.proofs.Facts.{both, decided, choose_true, choose_false}
 use Rattle.rules.specs.Codes.{node_least, node_limit, accepts, bad_tree, not_a_configuration, bad_event, wrong_place, out_of_turn}
-use Rattle.rules.specs.Cells.{node, link}
+use Rattle.rules.specs.Cells.{node}
 use Rattle.rules.specs.Tree.{tree_ok, good_tree, child_by}
 use Rattle.rules.specs.Configuration.{configuration_ok}
 use Rattle.rules.specs.Scenes.{scene_of}
 use Rattle.rules.specs.Table.{is_kind, kind_of}
 use Rattle.rules.specs.Events.{value_fits, event_ok, place_ok}
+use Rattle.std.specs.Prelude.{Result}
+use Rattle.rules.specs.Refusals.{number_of, number_said, value_said, answer_said}
 use Rattle.rules.specs.Step.{accepted, refused, end_of, link_there, end_at, turn_ok, effect_of, next_of, value_of, refusal, first_of, event_refusals, answer_of, step_of, onward_of}
 use Rattle.rules.specs.declared.State.{State}
 use Rattle.rules.specs.declared.Event.{Event}
 use Rattle.rules.specs.declared.Node.{Node}
+use Rattle.rules.specs.declared.Scene.{Scene}
+use Rattle.rules.specs.declared.Refusal.{Refusal}
+use Rattle.rules.specs.declared.kinds.Row.{Row}
 use Rattle.rules.specs.declared.Answer.{Answer}
 use Rattle.rules.specs.declared.kinds.End.{End}
 use Rattle.rules.specs.declared.kinds.End.TheVariants.{Own, Named, Requester, Noted}
+use Rattle.laws.proofs.Results.{has_number}
 use Rattle.needs.specs.Judged.{number_in}
-use Rattle.parts.specs.Parts.{index_of, end_in, moved_of, Parts, stays_as, parts_by, parts_at, parts_in, Landed}
-use Rattle.parts.specs.declared.Acted.{Acted}
-
--- the parts of a configuration, put back at x and j
-abbrev whole : State → ℕ → ℕ → Parts → Answer
-whole s x j p =
-    record { number = p.number; value = p.value; state = record { count = s.count; parents = s.parents; rights = p.rights; entries = p.entries; to_probe = p.to_probe; pending = p.pending; nodes = set s.nodes x p.node; links = set s.links j p.link } }
-
--- the parts of s, at x and j
-abbrev parts_of : State → ℕ → ℕ → Event → Parts
-parts_of s x j e =
-    parts_at s.count s.parents s.rights s.entries s.to_probe s.pending (node s x) (link s j) (kind_of e.kind).row x j e
+use Rattle.parts.specs.Parts.{index_of, end_in, laid, moved_of}
 
 module _ (s : State) (e : Event) where
   abbrev number : ℕ → ℕ → ℕ
-  number x j = number_in s.count s.parents (kind_of e.kind).row (scene_of s x j) x j e
+  number x j = number_in s (kind_of e.kind).row (scene_of s x j) x j e
 
   abbrev answer : ℕ → ℕ → ℕ → Answer
   answer k x j =
       choose (eqb k accepts)
       (accepted ((kind_of e.kind).says (scene_of s x j)) (effect_of (kind_of e.kind) s x j e (scene_of s x j) ((kind_of e.kind).does (scene_of s x j) e)))
       (refused k s)
-
-  -- a refusal puts back what was there
-  put_back : (x j k : ℕ) → whole s x j (stays_as k s.rights s.entries s.to_probe s.pending (node s x) (link s j)) ≡ refused k s
-  put_back x j k = simp set-get_or
-
-  at_place : (x j : ℕ) → whole s x j (parts_of s x j e) ≡ answer (number x j) x j
-  unfolding parts_by
-  at_place x j = go (decided (eqb (number x j) accepts))
-    where
-      go : (eqb (number x j) accepts ≡ true) ⊎ (eqb (number x j) accepts ≡ false) → whole s x j (parts_of s x j e) ≡ answer (number x j) x j
-      go (inl h) = ap (whole s x j) (choose_true _ _ h) ∙ sym (choose_true _ _ h)
-      go (inr h) = ap (whole s x j) (choose_false _ _ h) ∙ put_back x j (number x j) ∙ sym (choose_false _ _ h)
 
 -- an index within the arrays, and one beyond them
 index_in : (k : ℕ) → k < node_limit → index_of k ≡ k
@@ -146,17 +128,25 @@ module _ (s : State) (e : Event) where
           at (yes h) = here (leb-true _ _ d) b h
           at (no h) = off (leb-true _ _ d) b (omega arith)
 
--- what an owner cites: its parts after the event are its configuration's step
-pub moves : (s : State) (e : Event) {x j : ℕ} {rs es : List ℕ} {ws us : List Bool} {a : Acted}
-    → x ≡ index_of e.node → j ≡ end_in e (node s x)
-    → Landed (parts_in s.count s.parents s.rights s.entries s.to_probe s.pending (node s x) (link s j) e) rs es ws us a
-    → ◌≡◌ {A = Answer}
-    (record { number = a.number; value = a.value; state = record { count = s.count; parents = s.parents; rights = rs; entries = es; to_probe = ws; pending = us; nodes = set s.nodes x a.node; links = set s.links j a.link } })
-    (moved_of s e)
-unfolding parts_in
-moves s e {x} {j} p q d =
-    rw (d.number, d.value, d.rights, d.entries, d.to_probe, d.pending, d.node, d.link)
-    (rw (q, p) (at_place s e (index_of e.node) (end_in e (node s (index_of e.node))) ∙ moved_at s e))
+-- what `act` meets: x, j, v and r are what the code found for the event
+module _ (s : State) (e : Event) {r : Row} {x j : ℕ} {v : Scene} (the_row : r ≡ (kind_of e.kind).row) (the_node : x ≡ index_of e.node)
+    (the_end : j ≡ end_in e (node s x)) (seen : v ≡ scene_of s x j) where
+  settled : answer s e (number_in s r v x j e) x j ≡ moved_of s e
+  settled = rw (seen, the_end, the_node, the_row) (moved_at s e)
+
+  pub acts_refused : (k : Refusal) → number_of k ≡ number_in s r v x j e → refused (number_of k) s ≡ moved_of s e
+  acts_refused k h = sym (choose_false _ _ (ne_eqb (number_of k) accepts (has_number k))) ∙ (rw (← h) at settled)
+
+  pub acts_accepted : {w : Scene} {t : State} {a : ℕ} → accepts ≡ number_in s r v x j e → w ≡ (kind_of e.kind).does v e
+      → t ≡ laid r s x j e.other v w → a ≡ (kind_of e.kind).says v → accepted a t ≡ moved_of s e
+  acts_accepted h f g d = rw (d, g, f, seen, the_row) (sym (choose_true _ _ refl) ∙ (rw (← h) at settled))
+
+pub ruleset acting = (acts_refused, acts_accepted)
+
+-- what an owner cites of `act`: its number and its value are the step's, and what stands there afterwards is the step's configuration
+pub moves : (s t : State) (e : Event) (q : Result ℕ Refusal) → answer_said q t ≡ moved_of s e
+    → (number_said q ≡ (moved_of s e).number) × (value_said q ≡ (moved_of s e).value) × (t ≡ (moved_of s e).state)
+moves s t e q h = (ap (λ (a : Answer). a.number) h, ap (λ (a : Answer). a.value) h, ap (λ (a : Answer). a.state) h)
 
 -- a good tree is within the node limit
 pub within_limit : (s : State) → good_tree s ≡ true → leb s.count node_limit ≡ true

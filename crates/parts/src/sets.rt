@@ -1,58 +1,37 @@
-// Tests on one row of the entries or of a set, on the lent array. The loops read the whole row and leave by no early way: the
-// compiler then takes many cells at once.
-ghost use Rattle.std.specs.Prelude.{◌≡◌, ◌<◌};
-ghost use Rattle.rules.specs.Codes.{node_limit};
-ghost use Rattle.rules.specs.Names.{none_in, others_none_in, member_in, sets_empty_in};
+// Tests on the row of a node in the entries and in the sets.
+ghost use Rattle.std.specs.Prelude.{◌≡◌};
+ghost use Rattle.rules.specs.Names.{no_entries, no_other_entries, member_in, sets_empty};
 
-use rules::State;
+use loops::nodes::{all_nodes, any_node};
 use rules::codes::Entry;
+use rules::{Index, State};
 
+// All entries of the row of x are None.
 #[tactic(auto, unfolding(rules::specs::Names::none_in))]
-pub fn none_held(entries: &[u8; State::CELLS], x: usize) -> bool
-    requires { x < node_limit }
-    ensures { result ≡ none_in entries.now x }
+pub fn no_entries(s: &State, x: Index) -> bool
+    ensures { result ≡ no_entries s.now x.at }
 {
-    let mut none = true;
-    for k in 0..State::NODES {
-        none = none & (entries[x * State::NODES + k] == Entry::NONE);
-    }
-    none
+    all_nodes(|k| s.entries[x.cell(k)] == Entry::NONE)
 }
 
+// The same of all but that of q.
 #[tactic(auto, unfolding(rules::specs::Names::others_none_in))]
-pub fn others_none(entries: &[u8; State::CELLS], x: usize, q: usize) -> bool
-    requires { x < node_limit }
-    ensures { result ≡ others_none_in entries.now x q }
+pub fn no_other_entries(s: &State, x: Index, q: Index) -> bool
+    ensures { result ≡ no_other_entries s.now x.at q.at }
 {
-    let mut none = true;
-    for k in 0..State::NODES {
-        none = none & ((k == q) | (entries[x * State::NODES + k] == Entry::NONE));
-    }
-    none
+    all_nodes(|k| (k.at == q.at) | (s.entries[x.cell(k)] == Entry::NONE))
 }
 
 #[tactic(auto, unfolding(rules::specs::Names::member_in))]
-fn has_member(set: &[bool; State::CELLS], x: usize) -> bool
-    requires { x < node_limit }
-    ensures { result ≡ member_in set.now x }
+fn has_member(set: &[bool; State::CELLS], x: Index) -> bool
+    ensures { result ≡ member_in set.now x.at }
 {
-    let mut some = false;
-    for k in 0..State::NODES {
-        some = some | set[x * State::NODES + k];
-    }
-    some
+    any_node(|k| set[x.cell(k)])
 }
 
 // "both sets empty"
-pub fn sets_empty<'a>(
-    to_probe: &'a [bool; State::CELLS],
-    pending: &'a [bool; State::CELLS],
-    x: usize,
-) -> bool
-    requires { x < node_limit }
-    ensures { result ≡ sets_empty_in to_probe.now pending.now x }
+pub fn sets_empty(s: &State, x: Index) -> bool
+    ensures { result ≡ sets_empty s.now x.at }
 {
-    let listed = has_member(to_probe, x);
-    let waits = has_member(pending, x);
-    !listed & !waits
+    !has_member(&s.to_probe, x) & !has_member(&s.pending, x)
 }

@@ -59,17 +59,17 @@ flags_ok s = flag_cells_ok s to_probe_place && flag_cells_ok s pending_place && 
 -- the bytes of a node
 unfoldable pub node_bytes : Node → List ℕ
 node_bytes m =
-    (flag m.dirty ++ word_bytes m.value ++ one m.phase ++ one m.purpose)
-    ++ (one m.requester ++ flag m.probe ++ one m.cap ++ one m.release)
+    flag m.dirty ++ word_bytes m.value ++ one m.phase ++ one m.purpose
+    ++ one m.requester ++ flag m.probe ++ one m.cap ++ one m.release
 
 -- the bytes of a link
 unfoldable pub link_bytes : Link → List ℕ
 link_bytes m =
-    (one m.a ++ one m.b ++ one m.c ++ one m.kept)
-    ++ (word_bytes m.up ++ one m.d ++ word_bytes m.down ++ one m.e)
+    one m.a ++ one m.b ++ one m.c ++ one m.kept
+    ++ word_bytes m.up ++ one m.d ++ word_bytes m.down ++ one m.e
 
 -- the bytes of a configuration
 unfoldable pub state_bytes : State → List ℕ
 state_bytes m =
-    (one m.count ++ m.parents ++ m.rights ++ m.entries)
-    ++ (flags m.to_probe ++ flags m.pending ++ flat_map node_bytes m.nodes ++ flat_map link_bytes m.links)
+    one m.count ++ m.parents ++ m.rights ++ m.entries
+    ++ flags m.to_probe ++ flags m.pending ++ flat_map node_bytes m.nodes ++ flat_map link_bytes m.links

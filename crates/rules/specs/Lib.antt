@@ -20,3 +20,4 @@ pub mod Release
 pub mod Table
 pub mod Events
 pub mod Step
+pub mod Refusals

@@ -1,7 +1,6 @@
 // The codes of document 01's lists, in the order in which it gives them. specs/Codes.antt says the same in the definitions.
 
-#[derive(Clone, Copy)]
-pub struct Rights(pub u8);
+pub struct Rights;
 
 impl Rights {
     pub const N: u8 = 0;
@@ -11,8 +10,7 @@ impl Rights {
     pub const TIP: u8 = 2;
 }
 
-#[derive(Clone, Copy)]
-pub struct Entry(pub u8);
+pub struct Entry;
 
 impl Entry {
     pub const NONE: u8 = 0;
@@ -22,8 +20,7 @@ impl Entry {
     pub const TRUNK: u8 = 2;
 }
 
-#[derive(Clone, Copy)]
-pub struct Name(pub u8);
+pub struct Name;
 
 impl Name {
     pub const N: u8 = 0;
@@ -37,8 +34,7 @@ impl Name {
     pub const TT: u8 = 4;
 }
 
-#[derive(Clone, Copy)]
-pub struct Phase(pub u8);
+pub struct Phase;
 
 impl Phase {
     pub const IDLE: u8 = 0;
@@ -60,8 +56,7 @@ impl Phase {
     pub const LEAVING: u8 = 8;
 }
 
-#[derive(Clone, Copy)]
-pub struct Purpose(pub u8);
+pub struct Purpose;
 
 impl Purpose {
     pub const NONE: u8 = 0;
@@ -74,8 +69,7 @@ impl Purpose {
 }
 
 // The cap of an open probe; a message in slot B has the code of its cap.
-#[derive(Clone, Copy)]
-pub struct Cap(pub u8);
+pub struct Cap;
 
 impl Cap {
     pub const NONE: u8 = 0;
@@ -86,16 +80,14 @@ impl Cap {
 }
 
 // No child: an absent requester, an idle release.
-#[derive(Clone, Copy)]
-pub struct Child(pub u8);
+pub struct Child;
 
 impl Child {
     pub const NONE: u8 = 0;
 }
 
 // The messages, by slot. EMPTY is an empty slot.
-#[derive(Clone, Copy)]
-pub struct Message(pub u8);
+pub struct Message;
 
 impl Message {
     pub const EMPTY: u8 = 0;

@@ -1,15 +1,19 @@
 // What a configuration, an event and an answer are (document 01, "What a configuration holds", "Events", "Numbers a caller
-// may get"). No function: the rules stand in specs/.
+// may get"). The rules stand in specs/.
 #![tactic(auto)]
+
+ghost use Rattle.std.specs.Prelude.{◌≡◌, ◌<◌, ◌≤◌, MatchOption};
+ghost use Rattle.rules.specs.Cells.{cell};
+ghost use Rattle.rules.specs.Codes.{node_limit, cells};
+ghost use Rattle.rules.specs.Refusals.{number_of, number_said, value_said};
 
 pub mod codes;
 pub mod kinds;
-mod zero;
 
 // A comment before a field is its row in docs/FORMAT.md; tools/print reads these structs.
 
 // A node's dirty flag and value, its main transaction, its probe transaction and its release transaction.
-#[derive(Clone, Copy)]
+#[derive(Clone, Copy, Default, PartialEq, Eq)]
 pub struct Node {
     // flag
     pub dirty: bool,
@@ -29,7 +33,7 @@ pub struct Node {
 }
 
 // The five slots of the link between a node and its parent. `kept` and `up` belong to the message in C, `down` to that in D.
-#[derive(Clone, Copy)]
+#[derive(Clone, Copy, Default)]
 pub struct Link {
     // 0 empty, AcquireB 1, AcquireT 2, AcquireU 3
     pub a: u8,
@@ -81,6 +85,42 @@ impl State {
     pub const CELLS: usize = 256;
 }
 
+// The place of a node in the arrays, whether the tree reaches so far or not.
+#[derive(Clone, Copy)]
+pub struct Index {
+    pub at: usize,
+    ghost within: { at < node_limit },
+}
+
+impl Index {
+    // That of a node; none beyond the limit.
+    pub fn new(k: u8) -> Option<Index>
+        ensures { MatchOption result (node_limit ≤ k) (λ x. x.at ≡ k) }
+    {
+        let at = usize::from(k);
+        if at < State::NODES {
+            Some(Index { at })
+        } else {
+            None
+        }
+    }
+
+    // The node's number.
+    pub fn number(self) -> u8
+        ensures { result ≡ self.at }
+    {
+        self.at as u8
+    }
+
+    // "entry rows one for each node, kept flat": the cell of k in the row of this node.
+    pub fn cell(self, k: Index) -> usize
+        ensures value { result ≡ cell self.at k.at }
+        ensures within { result < cells }
+    {
+        self.at * State::NODES + k.at
+    }
+}
+
 // What a row of the event table sees, and all that it may change: a node's rights and fields; the link that it acts on and, where
 // that is a child's, the entry and the set members for that child. The rest tells of the node's row and is only read: it is a leaf;
 // both sets are empty; all entries are None; some entry is Trunk, or Branch; all entries but that child's are None.
@@ -107,6 +147,41 @@ pub struct Event {
     pub node: u8,
     pub other: u8,
     pub value: u64,
+}
+
+// Why a tree, a configuration or an event is refused.
+#[derive(Clone, Copy, PartialEq, Eq)]
+pub enum Refusal {
+    BadTree,
+    NotAConfiguration,
+    BadEvent,
+    WrongPlace,
+    OutOfTurn,
+}
+
+impl Refusal {
+    // "The answers carry the numbers of this table."
+    pub fn number(self) -> u8
+        ensures { result ≡ number_of self }
+    {
+        match self {
+            Refusal::BadTree => Answer::BAD_TREE,
+            Refusal::NotAConfiguration => Answer::NOT_A_CONFIGURATION,
+            Refusal::BadEvent => Answer::BAD_EVENT,
+            Refusal::WrongPlace => Answer::WRONG_PLACE,
+            Refusal::OutOfTurn => Answer::OUT_OF_TURN,
+        }
+    }
+}
+
+// The number and the answer value of what was done, or refused.
+pub fn told(answer: Result<u64, Refusal>) -> (u8, u64)
+    ensures { result ≡ (number_said answer, value_said answer) }
+{
+    match answer {
+        Ok(value) => (Answer::ACCEPTED, value),
+        Err(refusal) => (refusal.number(), 0),
+    }
 }
 
 // A number of document 01's table, the answer value, and the configuration after the step.

@@ -1,2 +1,2 @@
 -- What the code of the leaves meets.
-pub mod Leaves
+pub mod Flags

@@ -8,33 +8,19 @@ use rules::codes::{Message, Phase};
 
 // 6 send Acquire | AcquireB for load, AcquireT from N, AcquireU from B; Wait
 #[tactic(auto, unfolding(rules::specs::Acquire::send_acquire_does))]
-pub fn send_acquire_does(v: Scene) -> Scene
-    ensures { result ≡ send_acquire_does v }
+pub fn send_acquire_does(v: &mut Scene)
+    ensures { v.new ≡ send_acquire_does v.old }
 {
-    let mut m = v.node;
-    let mut l = v.link;
-    let message = acquire_for(m.purpose, v.rights);
-    l.a = message;
-    m.phase = Phase::WAIT;
-    let mut w = v;
-    w.link = l;
-    w.node = m;
-    w
+    v.link.a = acquire_for(v.node.purpose, v.rights);
+    v.node.phase = Phase::WAIT;
 }
 
 // 7 take Acquire | empties A, purpose load for B, store for T/U, requester; to-probe: ..; settle
 #[tactic(auto, unfolding(rules::specs::Acquire::take_acquire_does))]
-pub fn take_acquire_does(v: Scene, requester: u8) -> Scene
-    ensures { result ≡ take_acquire_does v requester }
+pub fn take_acquire_does(v: &mut Scene, requester: u8)
+    ensures { v.new ≡ take_acquire_does v.old requester }
 {
-    let mut m = v.node;
-    let mut l = v.link;
-    let purpose = purpose_for(l.a);
-    l.a = Message::EMPTY;
-    m.purpose = purpose;
-    m.requester = requester;
-    let mut w = v;
-    w.link = l;
-    w.node = m;
-    w
+    v.node.purpose = purpose_for(v.link.a);
+    v.node.requester = requester;
+    v.link.a = Message::EMPTY;
 }

@@ -7,51 +7,35 @@ use rules::codes::{Phase, Purpose};
 
 // 2 store | sets value, dirty
 #[tactic(auto, unfolding(rules::specs::Local::store_does))]
-pub fn store_does(v: Scene, value: u64) -> Scene
-    ensures { result ≡ store_does v value }
+pub fn store_does(v: &mut Scene, value: u64)
+    ensures { v.new ≡ store_does v.old value }
 {
-    let mut m = v.node;
-    m.value = value;
-    m.dirty = true;
-    let mut w = v;
-    w.node = m;
-    w
+    v.node.value = value;
+    v.node.dirty = true;
 }
 
 // 3 load miss | Ask, load
 #[tactic(auto, unfolding(rules::specs::Local::load_miss_does))]
-pub fn load_miss_does(v: Scene) -> Scene
-    ensures { result ≡ load_miss_does v }
+pub fn load_miss_does(v: &mut Scene)
+    ensures { v.new ≡ load_miss_does v.old }
 {
-    let mut m = v.node;
-    m.phase = Phase::ASK;
-    m.purpose = Purpose::LOAD;
-    let mut w = v;
-    w.node = m;
-    w
+    v.node.phase = Phase::ASK;
+    v.node.purpose = Purpose::LOAD;
 }
 
 // 4 store miss | Ask, store
 #[tactic(auto, unfolding(rules::specs::Local::store_miss_does))]
-pub fn store_miss_does(v: Scene) -> Scene
-    ensures { result ≡ store_miss_does v }
+pub fn store_miss_does(v: &mut Scene)
+    ensures { v.new ≡ store_miss_does v.old }
 {
-    let mut m = v.node;
-    m.phase = Phase::ASK;
-    m.purpose = Purpose::STORE;
-    let mut w = v;
-    w.node = m;
-    w
+    v.node.phase = Phase::ASK;
+    v.node.purpose = Purpose::STORE;
 }
 
 // 5 evict | evict; to-probe: all entries not None; settle
 #[tactic(auto, unfolding(rules::specs::Local::evict_does))]
-pub fn evict_does(v: Scene) -> Scene
-    ensures { result ≡ evict_does v }
+pub fn evict_does(v: &mut Scene)
+    ensures { v.new ≡ evict_does v.old }
 {
-    let mut m = v.node;
-    m.purpose = Purpose::EVICT;
-    let mut w = v;
-    w.node = m;
-    w
+    v.node.purpose = Purpose::EVICT;
 }

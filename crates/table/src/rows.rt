@@ -10,19 +10,6 @@ ghost use Rattle.rules.specs.declared.kinds.Settles.TheVariants.{Never};
 use rules::Event;
 use rules::kinds::{End, Other, Place, Probes, Row, Settles, Value};
 
-fn row(place: Place, other: Other, value: Value, end: End, probes: Probes, settles: Settles) -> Row
-    ensures { result ≡ row place other value end probes settles }
-{
-    Row {
-        place,
-        other,
-        value,
-        end,
-        probes,
-        settles,
-    }
-}
-
 // The row of a kind that says no more than its place.
 fn plain(place: Place) -> Row
     ensures { result ≡ row place NoOther NoValue Own Stay Never }
@@ -44,93 +31,63 @@ pub fn row_of(kind: u8) -> Row
 {
     match kind {
         Event::LOAD => plain(Place::AtLeaf),
-        Event::STORE => row(
-            Place::AtLeaf,
-            Other::NoOther,
-            Value::AnyValue,
-            End::Own,
-            Probes::Stay,
-            Settles::Never,
-        ),
+        Event::STORE => Row {
+            value: Value::AnyValue,
+            ..plain(Place::AtLeaf)
+        },
         Event::LOAD_MISS => plain(Place::AtLeaf),
         Event::STORE_MISS => plain(Place::AtLeaf),
-        Event::EVICT => row(
-            Place::BelowRoot,
-            Other::NoOther,
-            Value::NoValue,
-            End::Own,
-            Probes::Held,
-            Settles::Anew,
-        ),
+        Event::EVICT => Row {
+            probes: Probes::Held,
+            settles: Settles::Anew,
+            ..plain(Place::BelowRoot)
+        },
         Event::SEND_ACQUIRE => plain(Place::BelowRoot),
-        Event::TAKE_ACQUIRE => row(
-            Place::Anywhere,
-            Other::AChild,
-            Value::NoValue,
-            End::Named,
-            Probes::Asked,
-            Settles::Anew,
-        ),
-        Event::SEND_PROBE => row(
-            Place::Anywhere,
-            Other::AChild,
-            Value::NoValue,
-            End::Named,
-            Probes::Stay,
-            Settles::Never,
-        ),
-        Event::TAKE_PROBE => row(
-            Place::BelowRoot,
-            Other::NoOther,
-            Value::NoValue,
-            End::Own,
-            Probes::Capped,
-            Settles::Never,
-        ),
+        Event::TAKE_ACQUIRE => Row {
+            other: Other::AChild,
+            end: End::Named,
+            probes: Probes::Asked,
+            settles: Settles::Anew,
+            ..plain(Place::Anywhere)
+        },
+        Event::SEND_PROBE => Row {
+            other: Other::AChild,
+            end: End::Named,
+            ..plain(Place::Anywhere)
+        },
+        Event::TAKE_PROBE => Row {
+            probes: Probes::Capped,
+            ..plain(Place::BelowRoot)
+        },
         Event::SEND_PROBE_ACK => plain(Place::BelowRoot),
-        Event::TAKE_PROBE_ACK => row(
-            Place::Anywhere,
-            Other::AChild,
-            Value::NoValue,
-            End::Named,
-            Probes::Stay,
-            Settles::Again,
-        ),
+        Event::TAKE_PROBE_ACK => Row {
+            other: Other::AChild,
+            end: End::Named,
+            settles: Settles::Again,
+            ..plain(Place::Anywhere)
+        },
         Event::TAKE_GRANT => plain(Place::BelowRoot),
         Event::SEND_GRANT_ACK => plain(Place::BelowRoot),
-        Event::SEND_GRANT => row(
-            Place::AboveLeaf,
-            Other::AChoice,
-            Value::NoValue,
-            End::Requester,
-            Probes::Stay,
-            Settles::Never,
-        ),
-        Event::TAKE_GRANT_ACK => row(
-            Place::AboveLeaf,
-            Other::NoOther,
-            Value::NoValue,
-            End::Requester,
-            Probes::Stay,
-            Settles::Never,
-        ),
+        Event::SEND_GRANT => Row {
+            other: Other::AChoice,
+            end: End::Requester,
+            ..plain(Place::AboveLeaf)
+        },
+        Event::TAKE_GRANT_ACK => Row {
+            end: End::Requester,
+            ..plain(Place::AboveLeaf)
+        },
         Event::SEND_RELEASE => plain(Place::BelowRoot),
-        Event::TAKE_RELEASE => row(
-            Place::Anywhere,
-            Other::AChild,
-            Value::NoValue,
-            End::Named,
-            Probes::Stay,
-            Settles::Again,
-        ),
-        Event::SEND_RELEASE_ACK => row(
-            Place::AboveLeaf,
-            Other::NoOther,
-            Value::NoValue,
-            End::Noted,
-            Probes::Stay,
-            Settles::Never,
-        ),
+        Event::TAKE_RELEASE => Row {
+            other: Other::AChild,
+            end: End::Named,
+            settles: Settles::Again,
+            ..plain(Place::Anywhere)
+        },
+        Event::SEND_RELEASE_ACK => Row {
+            end: End::Noted,
+            ..plain(Place::AboveLeaf)
+        },
         Event::TAKE_RELEASE_ACK => plain(Place::BelowRoot),
         _ => plain(Place::Anywhere),
     }

@@ -3,6 +3,7 @@
 
 ghost use Rattle.std.specs.Prelude.{◌≤◌, length, IfOk};
 
+use octets::limits::WINDOW;
 use std::io;
 use std::io::{Read, Stdin, Write};
 
@@ -23,7 +24,7 @@ fn read_full(input: &mut Stdin, bytes: &mut [u8]) -> io::Result<usize>
 
 fn main(rt: HostRuntime) -> io::Result<()> {
     // The window and one byte more, which tells whether the input goes on.
-    let mut input = [0u8; 65537];
+    let mut input = [0u8; WINDOW + 1];
     let n = read_full(&mut rt.stdin(), &mut input)?;
     let mut out = [0u8; trails::ROOM];
     let r = trails::trail(&input[..n], &mut out);

@@ -5,31 +5,33 @@ use mathlib.Core.List.{List, ◌++◌}
 use Prim.Native.Nat.{ℕ, zero, suc, ◌+◌, ◌-◌, ◌<◌, ◌≤◌}
 use native.Mathlib.Numerals.{add-one}
 use native.Mathlib.Omega.{arith}
-use borrow.Author.Tests.{le-leb, lt-leb, eq-eqb, ne_eqb}
+use borrow.Author.Tests.{le-leb, lt-leb, leb-true, eq-eqb, ne_eqb}
 use lib.ListN.{length, take, drop, get_or, set, length-drop}
 use lib.Seq.{take_all, take-suc, take-suc-set, get_or-drop}
 use lib.Dec.{leb, eqb}
 use Rattle.words.proofs.Facts.{choose_true, choose_false}
+use Rattle.rules.specs.Codes.{node_limit}
+use Rattle.rules.specs.Tree.{good_tree}
 use Rattle.rules.specs.Step.{onward_of}
 use Rattle.rules.specs.declared.State.{State}
 use Rattle.rules.specs.declared.Event.{Event}
 use Rattle.rules.specs.declared.Answer.{Answer}
 use Rattle.octets.specs.Fields.{event_size}
 use Rattle.octets.specs.Prefixed.{window, reach, length_at}
-use Rattle.octets.specs.Written.{Wrote}
-use Rattle.octets.proofs.BytesWritten.{wrote_then, wrote_same}
-use Rattle.lines.specs.Lines.{line, names_by, end_line, bad_line}
-use Rattle.trails.specs.Trail.{record_size, record_at, record_ok, event_of, closing_in, closing, events_from, line_of}
+use Rattle.octets.specs.Written.{Adds}
+use Rattle.octets.specs.declared.page.Page.{Page}
+use Rattle.octets.proofs.Pages.{adds_then}
+use Rattle.lines.proofs.Composing.{bad_near, end_near}
+use Rattle.parts.proofs.Moving.{within_limit}
+use Rattle.lines.specs.Lines.{line, names_by, end_line}
+use Rattle.trails.specs.Trail.{record_size, record_at, record_ok, event_of, closing, events_from, line_of}
 
--- the rest, written from p on, makes t of what stood in the buffer at first
-pub record Left (o₀ t o : List ℕ) (p : ℕ) (rest : List ℕ) : Type 0 where
-  pub then : {o' : List ℕ} {r : ℕ} → Wrote o p rest o' r → Wrote o₀ 0 t o' r
+-- the rest, put on the page s, makes t of what stood there at first
+pub record Left (s₀ : Page) (t : List ℕ) (s : Page) (rest : List ℕ) : Type 0 where
+  pub then : {e : Page} → Adds s rest e → Adds s₀ t e
 
-pub left_all : (o t : List ℕ) → Left o t o 0 t
-left_all o t = record { then = λ w. w }
-
-left_less : {o₀ t o o' : List ℕ} {p p' : ℕ} (u rest : List ℕ) → Left o₀ t o p (u ++ rest) → Wrote o p u o' p' → Left o₀ t o' p' rest
-left_less u rest l w = record { then = λ v. l.then (wrote_then w v) }
+left_less : {s₀ s e : Page} {t : List ℕ} (u rest : List ℕ) → Left s₀ t s (u ++ rest) → Adds s u e → Left s₀ t e rest
+left_less u rest l w = record { then = λ v. l.then (adds_then u rest w v) }
 
 -- where no good record stands
 and_no : (a b : Bool) → b ≡ false → (a && b) ≡ false
@@ -83,30 +85,27 @@ abbrev pub more : ℕ → ℕ
 more i = window + 1 - i
 
 -- a turn of the loop
-pub turned : {o₀ t o o' : List ℕ} {p p' : ℕ} (v : ℕ) (s : List ℕ) (at i : ℕ) (c : State) {r : List ℕ} {e : Event} {a : Answer}
-    → Left o₀ t o p (events_from v (more i) s at i c) → i ≤ window → r ≡ record_at s at → record_ok s at ≡ true
-    → e ≡ event_of v r → a ≡ onward_of c e → Wrote o p (line i e.kind e.node a.number a.value) o' p'
-    → Left o₀ t o' p' (events_from v (more (i + 1)) s (at + record_size) (i + 1) a.state)
-turned {o₀} {t} {o} {o'} {p} {p'} v s at i c {r} {e} {a} l h q ok f g w =
+pub turned : {s₀ d d' : Page} {t : List ℕ} (v : ℕ) (s : List ℕ) (at i : ℕ) (c : State) {r : List ℕ} {e : Event} {a : Answer}
+    → Left s₀ t d (events_from v (more i) s at i c) → i ≤ window → r ≡ record_at s at → record_ok s at ≡ true
+    → e ≡ event_of v r → a ≡ onward_of c e → Adds d (line i e.kind e.node a.number a.value) d'
+    → Left s₀ t d' (events_from v (more (i + 1)) s (at + record_size) (i + 1) a.state)
+turned {s₀} {d} {d'} {t} v s at i c {r} {e} {a} l h q ok f g w =
     let x : Event = event_of v (record_at s at) in
     let b : Answer = onward_of c x in
-    let d : e ≡ x = f ∙ ap (event_of v) q in
-    let k : a ≡ b = g ∙ ap (onward_of c) d in
-    let u : Wrote o p (line i x.kind x.node b.number b.value) o' p' =
-    subst (λ (z : Answer). Wrote o p (line i x.kind x.node z.number z.value) o' p') k
-    (subst (λ (y : Event). Wrote o p (line i y.kind y.node a.number a.value) o' p') d w) in
-    subst⁻¹ (λ (z : Answer). Left o₀ t o' p' (events_from v (more (i + 1)) s (at + record_size) (i + 1) z.state)) k
+    let z : e ≡ x = f ∙ ap (event_of v) q in
+    let k : a ≡ b = g ∙ ap (onward_of c) z in
+    let u : Adds d (line i x.kind x.node b.number b.value) d' =
+    subst (λ (z : Answer). Adds d (line i x.kind x.node z.number z.value) d') k
+    (subst (λ (y : Event). Adds d (line i y.kind y.node a.number a.value) d') z w) in
+    subst⁻¹ (λ (z : Answer). Left s₀ t d' (events_from v (more (i + 1)) s (at + record_size) (i + 1) z.state)) k
     (left_less (line_of i x (onward_of c x)) _ (rw (goes v (more i) (more (i + 1)) s at i c (omega arith) ok) at l) u)
 
 -- the last line: z is the offset with which the loop was left
-pub closes : {o₀ t o o' : List ℕ} {p r z : ℕ} (v n : ℕ) (s : List ℕ) (at i : ℕ) (c : State) → Left o₀ t o p (events_from v n s at i c) → z ≡ at → record_ok s at ≡ false → Wrote o p (closing s z c) o' r → Wrote o₀ 0 t o' r
-closes v n s at i c l e h w = l.then (wrote_same (rw e (sym (stops v n s at i c h))) w)
+pub closes : {s₀ d d' : Page} {t : List ℕ} {z : ℕ} (v n : ℕ) (s : List ℕ) (at i : ℕ) (c : State) → Left s₀ t d (events_from v n s at i c) → z ≡ at → record_ok s at ≡ false → Adds d (closing s z c) d' → Adds s₀ t d'
+closes v n s at i c l e h w = l.then (rw (stops v n s at i c h, ← e) w)
 
-module _ {o o' : List ℕ} {p r : ℕ} (s : List ℕ) (at n : ℕ) (rs es : List ℕ) where
-  pub ends : length s ≤ at → Wrote o p (end_line (names_by rs es n)) o' r → Wrote o p (closing_in s at n rs es) o' r
-  unfolding closing_in
-  ends h w = wrote_same (sym (choose_true _ _ (le-leb (length s) at h))) w
+-- a good tree has few names
+pub end_close : {d d' : Page} (c : State) → good_tree c ≡ true → Adds d (end_line (names_by c.rights c.entries c.count)) d' → d'.at ≤ d.at + 800
+end_close c h w = end_near c.rights c.entries c.count w (let l = leb-true c.count node_limit (within_limit c h) in omega arith)
 
-  pub breaks : at < length s → Wrote o p (bad_line at) o' r → Wrote o p (closing_in s at n rs es) o' r
-  unfolding closing_in
-  breaks h w = wrote_same (sym (choose_false _ _ (lt-leb (length s) at h))) w
+pub ruleset closings = (end_close, bad_near)

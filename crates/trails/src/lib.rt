@@ -3,14 +3,14 @@
 
 ghost use Rattle.std.specs.Prelude.{◌≡◌, ◌<◌, length, take, drop};
 ghost use Rattle.io.specs.Counts.{IsPrefixLen};
-ghost use Rattle.octets.specs.Written.{Wrote};
+ghost use Rattle.octets.specs.Written.{Adds};
 ghost use Rattle.trails.specs.Trail.{trail_of, trail_under, room};
 
 use lines::put_bad;
 use octets::limits::longest_first;
+use octets::page::Page;
 use octets::read::{byte_at, length_at};
-use opening::reset_by;
-use rules::Answer;
+use opening::{START, reset_by};
 use run::events;
 
 mod run;
@@ -25,28 +25,27 @@ pub fn trail(input: &[u8], out: &mut [u8; ROOM]) -> usize
     ensures rest { drop result out.new ≡ drop result out.old }
     ensures prefix { IsPrefixLen result out.new }
 {
-    // Lent as a slice, the array shows the proof how long it is.
-    length_of(out);
-    trail_under(input, out, byte_at(input, 0))
+    let mut page = Page::new(out);
+    trail_under(&mut page, input, byte_at(input, 0));
+    page.written()
 }
 
-fn length_of(out: &[u8]) -> usize {
-    out.len()
-}
-
-// The text under the version, written from the start of the buffer.
-fn trail_under(input: &[u8], out: &mut [u8; ROOM], version: u8) -> usize
-    ensures text { Wrote out.old 0 (trail_under version input.now) out.new result }
-    ensures fits { result < room }
+// The text under the version, from the start of a page.
+#[tactic(auto, using(crate::proofs::Starting::ways))]
+fn trail_under(page: &mut Page, input: &[u8], version: u8)
+    requires { page.old.at ≡ 0 }
+    ensures text { Adds page.old (trail_under version input.now) page.new }
+    ensures fits { page.new.at < room }
 {
-    if longest_first(version) < 1 {
-        return put_bad(out, 0, 0);
+    if longest_first(version) == 0 {
+        put_bad(page, 0);
+        return;
     }
-    let a = reset_by(version, input);
-    if a.number != Answer::ACCEPTED {
-        return put_bad(out, 0, 1);
+    match reset_by(version, input) {
+        Ok(s) => {
+            let n = length_at(input, 1) as usize;
+            events(page, input, version, s, START + n);
+        }
+        Err(_) => put_bad(page, 1),
     }
-    let s = a.state;
-    let n = length_at(input, 1) as usize;
-    events(input, out, version, s, 3 + n)
 }

@@ -1,22 +1,23 @@
 // From the first event to the last line: "reads one event after another until the input ends or a record is bad".
 ghost use Rattle.std.specs.Prelude.{◌≡◌, ◌+◌, ◌<◌, ◌≤◌, true};
+ghost use Rattle.rules.specs.Refusals.{number_said, value_said};
 ghost use Rattle.rules.specs.Tree.{good_tree};
 ghost use Rattle.octets.specs.Prefixed.{window, reach};
-ghost use Rattle.octets.specs.Written.{Wrote};
+ghost use Rattle.octets.specs.Written.{Adds};
 ghost use Rattle.lines.specs.Lines.{line};
-ghost use Rattle.trails.specs.Trail.{room, closing_in, event_of, events_from};
+ghost use Rattle.trails.specs.Trail.{room, closing, event_of, events_from};
 
-use crate::ROOM;
 use lines::{put_bad, put_end, put_line};
 use octets::limits::{EVENT, PREFIX, reach};
+use octets::page::Page;
 use octets::read::{event_at, length_at};
-use parts::{act, end_of, node_of};
-use rules::{Event, State};
+use parts::act;
+use rules::{Event, Refusal, State, told};
 
 // An event record with its length.
 const RECORD: usize = PREFIX + EVENT;
 
-// The event of a record, as a trail of the version reads it.
+// The event of a record, as a trail of the version reads it: version 1 takes the fields as they stand.
 #[tactic(auto, unfolding(crate::specs::Trail::event_of))]
 fn event(version: u8, r: &[u8; RECORD]) -> Event
     ensures { result ≡ event_of version r.now }
@@ -25,97 +26,62 @@ fn event(version: u8, r: &[u8; RECORD]) -> Event
 }
 
 // The line of an event that a trail prints: an index has at most five digits.
-fn put_next(out: &mut [u8; ROOM], at: usize, index: u64, ev: Event, number: u8, value: u64) -> usize
+#[tactic(auto, using(lines::proofs::Composing::line_near))]
+fn put_next(page: &mut Page, index: u64, ev: Event, answer: Result<u64, Refusal>)
     requires { index < 100000 }
-    ensures text { Wrote out.old at (line index ev.kind ev.node number value) out.new result }
-    ensures near { result ≤ at + 39 }
+    ensures text { Adds page.old (line index ev.kind ev.node (number_said answer) (value_said answer)) page.new }
+    ensures near { page.new.at ≤ page.old.at + 39 }
 {
-    put_line(out, at, index, ev, number, value)
+    let (number, value) = told(answer);
+    put_line(page, index, ev, number, value);
 }
 
-// The last line: the input ended at `end`, or a bad record stands there. The configuration's arrays are lent, not copied.
-fn put_closing<'a>(
-    input: &[u8],
-    out: &mut [u8; ROOM],
-    at: usize,
-    end: usize,
-    n: u8,
-    rights: &'a [u8; State::NODES],
-    entries: &'a [u8; State::CELLS],
-) -> usize
-    ensures text { Wrote out.old at (closing_in input.now end n rights.now entries.now) out.new result }
-    ensures near { result ≤ at + 800 }
+// The last line: the input ended at `end`, or a bad record stands there.
+#[tactic(auto, using(crate::proofs::Running::closings), unfolding(crate::specs::Trail::closing_in, words::specs::Vocab::choose))]
+fn put_closing(page: &mut Page, input: &[u8], end: usize, s: &State)
+    requires { good_tree s.now ≡ true }
+    ensures text { Adds page.old (closing input.now end s.now) page.new }
+    ensures near { page.new.at ≤ page.old.at + 800 }
 {
     if end >= input.len() {
-        return put_end(out, at, n, rights, entries);
+        put_end(page, s);
+    } else {
+        put_bad(page, end);
     }
-    put_bad(out, at, end)
 }
 
 // The text of the events from the offset `first` on. The loop breaks with the offset of a bad record, or of the input's end.
-// The configuration stands in its parts and is changed in place: an event copies a node and a link. Its tree is good, so number 1
-// is not looked for at each event.
-pub fn events(input: &[u8], out: &mut [u8; ROOM], version: u8, start: State, first: usize) -> usize
-    requires tree { good_tree start ≡ true }
+// The configuration is changed in place. Its tree is good, so number 1 is not looked for at each event.
+pub fn events(page: &mut Page, input: &[u8], version: u8, mut s: State, first: usize)
+    requires empty { page.old.at ≡ 0 }
+    requires tree { good_tree s ≡ true }
     requires low { 12 ≤ first }
     requires within { first ≤ reach input.now }
-    ensures text { Wrote out.old 0 (events_from version window input.now first 1 start) out.new result }
-    ensures fits { result < room }
+    ensures text { Adds page.old (events_from version window input.now first 1 s) page.new }
+    ensures fits { page.new.at < room }
 {
     let limit = reach(input);
-    let count = start.count;
-    let parents = start.parents;
-    let mut rights = start.rights;
-    let mut entries = start.entries;
-    let mut to_probe = start.to_probe;
-    let mut pending = start.pending;
-    let mut nodes = start.nodes;
-    let mut links = start.links;
     let mut at = first;
-    let mut index: u64 = 1;
-    let mut p: usize = 0;
+    let mut index = 1;
     let end = 'events: loop {
         if at >= input.len() {
             break 'events at;
         }
-        let mut record = [0u8; RECORD];
-        let mut k: usize = 0;
-        'record: loop {
-            if k >= RECORD {
-                break 'record;
-            }
+        let mut bytes = [0; RECORD];
+        for k in 0..RECORD {
             if at + k >= limit {
                 break 'events at;
             }
-            record[k] = input[at + k];
-            k = k + 1;
+            bytes[k] = input[at + k];
         }
-        if length_at(&record, 0) != EVENT as u64 {
+        if length_at(&bytes, 0) != EVENT as u64 {
             break 'events at;
         }
-        let ev = event(version, &record);
-        let x = node_of(ev);
-        let m = nodes[x];
-        let j = end_of(ev, m);
-        let l = links[j];
-        let a = act(
-            count,
-            &parents,
-            &mut rights,
-            &mut entries,
-            &mut to_probe,
-            &mut pending,
-            m,
-            l,
-            ev,
-        );
-        let node = a.node;
-        let link = a.link;
-        nodes[x] = node;
-        links[j] = link;
-        p = put_next(out, p, index, ev, a.number, a.value);
-        index = index + 1;
-        at = at + RECORD;
+        let ev = event(version, &bytes);
+        let answer = act(&mut s, ev);
+        put_next(page, index, ev, answer);
+        index += 1;
+        at += RECORD;
     };
-    put_closing(input, out, p, end, count, &rights, &entries)
+    put_closing(page, input, end, &s);
 }

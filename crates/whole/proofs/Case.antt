@@ -22,6 +22,7 @@ use Rattle.rules.specs.Step.{tree_parent, tree_parents, start_of, reset_of, end_
 use Rattle.octets.specs.BigEndian.{number, bytes_of}
 use Rattle.octets.specs.Fields.{flag_byte, event_at}
 use Rattle.octets.specs.Versions.{longest_first}
+use Rattle.octets.specs.Written.{standing, after}
 use Rattle.opening.specs.Opening.{first_ok, parents_of, reset_asked, reset_by}
 use Rattle.lines.specs.Lines.{spelled, field, asked, line, name_text, names_by, end_line, bad_line}
 use Rattle.trails.specs.Trail.{record_ok, event_of, closing_in, events_from, started_from, trail_under}
@@ -70,5 +71,5 @@ pub cases : (trail_of whole_case ≡ printed)
     × (trail_of (broken (0 ∷ [])) ≡ breaks)
     × (trail_of (broken (take 12 (event 1 1 0 0))) ≡ breaks)
     × (trail_of (broken (0 ∷ 12 ∷ 1 ∷ 1 ∷ 0 ∷ word 0 ++ (0 ∷ []))) ≡ breaks)
-unfolding all any fill choose tree_ok child_by leaf_in some_in none_in others_none_in member_in name_of carries_up installs from_trunk is_probe_ack is_release is_grant carries_down granted_rights entry_for copy_ok serving evicting work_ok at_leaf leaf_ok has_requester requester_ok child_ok probe_ok node_ok up_ok down_ok link_ok member_ok entry_ok pair_ok slots_empty blank stands_ok right_at configuration_ok value_at dirty_at data_taken installed next_phase phase_after settled_phase load_needs store_needs store_does load_miss_needs load_miss_does store_miss_needs store_miss_does evict_needs evict_does held asks_from send_acquire_needs acquire_for send_acquire_does acquire_fits take_acquire_needs purpose_for take_acquire_does probed_for send_probe_needs cap_for send_probe_does serves_probes take_probe_needs take_probe_does probed_by cap_met send_probe_ack_needs cap_rights fallen carried probe_ack_for send_probe_ack_does data_fits take_probe_ack_needs take_probe_ack_does grant_fits take_grant_needs take_grant_does send_grant_ack_needs confirmed send_grant_ack_does may_grant send_grant_needs grant_for grant_value send_grant_does take_grant_ack_needs take_grant_ack_does send_release_needs release_for send_release_does awaits take_release_needs take_release_does send_release_ack_needs send_release_ack_does take_release_ack_needs take_release_ack_does listed numbered other_fits value_fits place_fits event_ok place_ok tree_parent tree_parents start_of reset_of end_of link_there turn_ok probed_in next_of value_of first_of answer_of step_of onward_of number bytes_of flag_byte event_at longest_first first_ok parents_of reset_asked reset_by spelled field asked line name_text names_by end_line bad_line record_ok event_of closing_in events_from started_from trail_under flat_map
+unfolding all any fill choose tree_ok child_by leaf_in some_in none_in others_none_in member_in name_of carries_up installs from_trunk is_probe_ack is_release is_grant carries_down granted_rights entry_for copy_ok serving evicting work_ok at_leaf leaf_ok has_requester requester_ok child_ok probe_ok node_ok up_ok down_ok link_ok member_ok entry_ok pair_ok slots_empty blank stands_ok right_at configuration_ok value_at dirty_at data_taken installed next_phase phase_after settled_phase load_needs store_needs store_does load_miss_needs load_miss_does store_miss_needs store_miss_does evict_needs evict_does held asks_from send_acquire_needs acquire_for send_acquire_does acquire_fits take_acquire_needs purpose_for take_acquire_does probed_for send_probe_needs cap_for send_probe_does serves_probes take_probe_needs take_probe_does probed_by cap_met send_probe_ack_needs cap_rights fallen carried probe_ack_for send_probe_ack_does data_fits take_probe_ack_needs take_probe_ack_does grant_fits take_grant_needs take_grant_does send_grant_ack_needs confirmed send_grant_ack_does may_grant send_grant_needs grant_for grant_value send_grant_does take_grant_ack_needs take_grant_ack_does send_release_needs release_for send_release_does awaits take_release_needs take_release_does send_release_ack_needs send_release_ack_does take_release_ack_needs take_release_ack_does listed numbered other_fits value_fits place_fits event_ok place_ok tree_parent tree_parents start_of reset_of end_of link_there turn_ok probed_in next_of value_of first_of answer_of step_of onward_of number bytes_of flag_byte event_at longest_first standing after first_ok parents_of reset_asked reset_by spelled field asked line name_text names_by end_line bad_line record_ok event_of closing_in events_from started_from trail_under flat_map
 cases = (refl, refl, refl, refl, refl, refl, refl, refl, refl, refl)

@@ -1,0 +1,2 @@
+-- A row that is written whole.
+pub mod Filled

@@ -1,5 +1,0 @@
-use Rattle.octets.proofs.BytesRead.{number_from}
-use Rattle.octets.proofs.read.word_at.Goals as goal
-
-pub returns : goal.returns
-returns c = search (number_from)

@@ -1,0 +1,43 @@
+// Bytes put on a page, one after the other. What does not fit its buffer is not written.
+ghost use Rattle.std.specs.Prelude.{◌≡◌};
+ghost use Rattle.octets.specs.BigEndian.{word_bytes};
+ghost use Rattle.octets.specs.Fields.{one, flag};
+ghost use Rattle.octets.specs.Written.{Adds};
+
+use crate::page::Page;
+
+impl<'a> Page<'a> {
+    #[tactic(auto, unfolding(crate::specs::Written::standing, crate::specs::Written::after))]
+    pub fn byte(&mut self, b: u8)
+        ensures { Adds self.old (one b) self.new }
+    {
+        if self.at < self.out.len() {
+            self.out[self.at] = b;
+            self.at += 1;
+        }
+    }
+
+    #[tactic(auto, using(crate::proofs::BytesWritten::put_part), unfolding(crate::specs::Written::standing, crate::specs::Written::after))]
+    pub fn bytes(&mut self, t: &[u8])
+        ensures { Adds self.old t.now self.new }
+    {
+        let n = t.len().min(self.out.len() - self.at);
+        self.out[self.at..self.at + n].copy_from_slice(&t[..n]);
+        self.at += n;
+    }
+
+    // The eight bytes of a number.
+    #[tactic(auto, using(crate::proofs::BytesWritten::big_endian))]
+    pub fn word(&mut self, v: u64)
+        ensures { Adds self.old (word_bytes v) self.new }
+    {
+        self.bytes(&v.to_be_bytes());
+    }
+
+    #[tactic(auto, unfolding(crate::specs::Fields::flag_byte, words::specs::Vocab::choose))]
+    pub fn flag(&mut self, b: bool)
+        ensures { Adds self.old (flag b) self.new }
+    {
+        self.byte(u8::from(b));
+    }
+}

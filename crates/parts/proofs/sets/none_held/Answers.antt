@@ -1,8 +1,0 @@
-use Rattle.words.proofs.Meeting.{scans}
-use Rattle.parts.proofs.sets.none_held.Goals as goal
-
-pub loop-k-init : goal.loop-k-init
-loop-k-init c = search scans
-
-pub loop-k-preserved : goal.loop-k-preserved
-loop-k-preserved c = search scans
