@@ -33,7 +33,7 @@ use Rattle.rules.specs.declared.kinds.End.{End}
 use Rattle.rules.specs.declared.kinds.End.TheVariants.{Own, Named, Requester, Noted}
 use Rattle.laws.proofs.Results.{has_number}
 use Rattle.needs.specs.Judged.{number_in}
-use Rattle.parts.specs.Parts.{index_of, end_in, laid, moved_of}
+use Rattle.parts.specs.Parts.{index_of, end_in, moved_of}
 
 module _ (s : State) (e : Event) where
   abbrev number : ℕ → ℕ → ℕ
@@ -138,8 +138,8 @@ module _ (s : State) (e : Event) {r : Row} {x j : ℕ} {v : Scene} (the_row : r 
   acts_refused k h = sym (choose_false _ _ (ne_eqb (number_of k) accepts (has_number k))) ∙ (rw (← h) at settled)
 
   pub acts_accepted : {w : Scene} {t : State} {a : ℕ} → accepts ≡ number_in s r v x j e → w ≡ (kind_of e.kind).does v e
-      → t ≡ laid r s x j e.other v w → a ≡ (kind_of e.kind).says v → accepted a t ≡ moved_of s e
-  acts_accepted h f g d = rw (d, g, f, seen, the_row) (sym (choose_true _ _ refl) ∙ (rw (← h) at settled))
+      → t ≡ effect_of (kind_of e.kind) s x j e v w → a ≡ (kind_of e.kind).says v → accepted a t ≡ moved_of s e
+  acts_accepted h f g d = rw (d, g, f, seen) (sym (choose_true _ _ refl) ∙ (rw (← h) at settled))
 
 pub ruleset acting = (acts_refused, acts_accepted)
 

@@ -4,8 +4,9 @@
 ghost use Rattle.std.specs.Prelude.{◌≡◌};
 ghost use Rattle.rules.specs.Refusals.{answer_said};
 ghost use Rattle.rules.specs.Scenes.{scene_of};
-ghost use Rattle.rules.specs.Step.{end_of};
-ghost use Rattle.parts.specs.Parts.{index_of, end_in, laid, moved_of};
+ghost use Rattle.rules.specs.Step.{end_of, effect_of};
+ghost use Rattle.rules.specs.Table.{kind_of};
+ghost use Rattle.parts.specs.Parts.{index_of, end_in, moved_of};
 
 use crate::probes::write_row;
 use crate::sets::{no_entries, no_other_entries, sets_empty};
@@ -79,14 +80,15 @@ fn scene_at(s: &State, x: Index, j: Index) -> Scene
 }
 
 // The effect w of an accepted event, written at x and j; the node settles.
-fn land(s: &mut State, row: Row, v: Scene, w: Scene, x: Index, j: Index, other: u8)
-    ensures { s.new ≡ laid row s.old x.at j.at other v w }
+fn land(s: &mut State, row: Row, ev: Event, v: Scene, w: Scene, x: Index, j: Index)
+    requires { row ≡ (kind_of ev.kind).row }
+    ensures { s.new ≡ effect_of (kind_of ev.kind) s.old x.at j.at ev v w }
 {
     let cell = x.cell(j);
     s.rights[x.at] = w.rights;
     s.pending[cell] = w.pending;
     s.to_probe[cell] = w.to_probe;
-    write_row(row.probes, v, other, &s.entries, x, &mut s.to_probe);
+    write_row(row.probes, v, ev.other, &s.entries, x, &mut s.to_probe);
     s.entries[cell] = w.entry;
     s.links[j.at] = w.link;
     let still = sets_empty(s, x);
@@ -105,6 +107,6 @@ pub fn act(s: &mut State, ev: Event) -> Result<u64, Refusal>
     let v = scene_at(s, x, j);
     judged(s, row, v, x.number(), j.number(), ev)?;
     let w = table::done(v, ev);
-    land(s, row, v, w, x, j, ev.other);
+    land(s, row, ev, v, w, x, j);
     Ok(table::said(v, ev.kind))
 }
