@@ -8,7 +8,8 @@ ghost use Rattle.rules.specs.Refusals.{answer_said};
 ghost use Rattle.rules.specs.Step.{reset_of, step_of, onward_of};
 ghost use Rattle.model.specs.Outcomes.{outcome_of};
 
-use rules::{Event, Refusal, State, told};
+use rules::{Answer, Event, Refusal, State, told};
+use start::refused;
 
 #[derive(Clone, Copy)]
 pub struct Config {
@@ -23,6 +24,18 @@ pub struct Outcome {
 }
 
 impl Outcome {
+    fn said(answer: Answer) -> Outcome
+        ensures { result ≡ outcome_of answer }
+    {
+        Outcome {
+            number: answer.number,
+            value: answer.value,
+            config: Config {
+                state: answer.state,
+            },
+        }
+    }
+
     fn of(answer: Result<u64, Refusal>, state: State) -> Outcome
         ensures { result ≡ outcome_of (answer_said answer state) }
     {
@@ -42,7 +55,7 @@ impl Config {
     {
         match start::started(count, parents, first) {
             Ok(state) => Outcome::of(Ok(0), state),
-            Err(refusal) => Outcome::of(Err(refusal), start::blank_state()),
+            Err(refusal) => Outcome::said(refused(refusal.number(), start::blank_state())),
         }
     }
 

@@ -1,4 +1,4 @@
-// Numbers 3, 4 and 5: the first that applies, and 0 where none does.
+// Numbers 3, 4 and 5: the first that applies, if one does.
 ghost use Rattle.std.specs.Prelude.{◌≡◌};
 ghost use Rattle.needs.specs.Judged.{event_in, turn_in, number_in};
 ghost use Rattle.rules.specs.Events.{other_fits, value_fits, place_fits};

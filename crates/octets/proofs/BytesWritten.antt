@@ -7,7 +7,7 @@ use native.Mathlib.Decide.{dec_lt}
 use native.Mathlib.Omega.{arith}
 use lib.ListN.{length, set, length-append, drop_of_length-le, take, drop}
 use lib.Seq.{sets, sets-eq, set_out, length-sets, drop-drop}
-use Rattle.std.proofs.lemmas.List.{length-take-le, take-append-drop}
+use Rattle.std.proofs.lemmas.List.{length-take-le, take-append-drop, take_all}
 use borrow.Rule.Slice.PartMut.{put_mid}
 use Rattle.std.specs.Int.{to_be_bytes}
 use mir.Syntax.{w64}
@@ -36,6 +36,14 @@ sets_next l i a b p e = go (dec_lt (length l) (i + length a))
         ∙ sets_then l i a b
     go (no h) = let q : p ≡ i + length a = omega arith in rw q (sets_then l i a b)
 
+-- one text written, then another
+pub wrote_then : {a b c : List ℕ} {at p r : ℕ} {t u : List ℕ} → Wrote a at t b p → Wrote b p u c r → Wrote a at (t ++ u) c r
+wrote_then {a} {b} {c} {at} {p} {r} {t} {u} f g =
+    record {
+      buffer = g.buffer ∙ rw f.buffer (sets_next a at t u p f.next);
+      next = g.next ∙ rw (f.next, f.buffer, length-sets, length-append) (omega arith);
+    }
+
 -- the bytes that fit, copied at once
 pub put_part : (l t : List ℕ) (i n : ℕ) {k : ℕ} {u : List ℕ} → i ≤ length l → n ≡ min (length t) (length l - i) → k ≡ n → u ≡ take n t → put_mid i k l u ≡ sets l i t
 put_part l t i n h e f g =
@@ -47,6 +55,10 @@ put_part l t i n h e f g =
     none : Dec (n < length t) → length (take n t) ≡ n → sets (sets l i (take n t)) (i + n) (drop n t) ≡ sets l i (take n t)
     none (yes j) m = sets_out (sets l i (take n t)) (i + n) (drop n t) (omega (arith, length-sets l i (take n t)))
     none (no j) m = let all : length t ≤ n = omega arith in rw (drop_of_length-le t all)
+
+-- the same of bytes that all fit
+pub put_all : (l t : List ℕ) (i : ℕ) {k : ℕ} {u : List ℕ} → i ≤ length l → length t ≤ length l - i → k ≡ length t → u ≡ t → put_mid i k l u ≡ sets l i t
+put_all l t i h e f g = put_part l t i (length t) h (omega (arith, e)) f (g ∙ sym (take_all (length t) t (omega arith)))
 
 -- the elements of a list, each in its bytes
 module _ {A : Type 0} (f : A → List ℕ) where

@@ -1,4 +1,5 @@
-// Bytes put on a page, one after the other. What does not fit its buffer is not written.
+// Bytes put on a page, one after the other. What does not fit its buffer is not written. The place is read once: the compiler can not
+// tell that what is written is not the place itself, and would read it again.
 ghost use Rattle.std.specs.Prelude.{◌≡◌};
 ghost use Rattle.octets.specs.BigEndian.{word_bytes};
 ghost use Rattle.octets.specs.Fields.{one, flag};
@@ -11,19 +12,27 @@ impl<'a> Page<'a> {
     pub fn byte(&mut self, b: u8)
         ensures { Adds self.old (one b) self.new }
     {
-        if self.at < self.out.len() {
-            self.out[self.at] = b;
-            self.at += 1;
+        let at = self.at;
+        if at < self.out.len() {
+            self.out[at] = b;
+            self.at = at + 1;
         }
     }
 
-    #[tactic(auto, using(crate::proofs::BytesWritten::put_part), unfolding(crate::specs::Written::standing, crate::specs::Written::after))]
+    #[tactic(auto, using(crate::proofs::BytesWritten::put_part, crate::proofs::BytesWritten::put_all), unfolding(crate::specs::Written::standing, crate::specs::Written::after))]
     pub fn bytes(&mut self, t: &[u8])
         ensures { Adds self.old t.now self.new }
     {
-        let n = t.len().min(self.out.len() - self.at);
-        self.out[self.at..self.at + n].copy_from_slice(&t[..n]);
-        self.at += n;
+        let at = self.at;
+        let room = self.out.len() - at;
+        // What fits is copied by its own length, which a caller's text often shows.
+        if t.len() <= room {
+            self.out[at..at + t.len()].copy_from_slice(t);
+            self.at = at + t.len();
+        } else {
+            self.out[at..].copy_from_slice(&t[..room]);
+            self.at = at + room;
+        }
     }
 
     // The eight bytes of a number.

@@ -1,6 +1,7 @@
 // Printed by tools/print from crates/rules/src/lib.rt: the places of the fields in bytes (docs/FORMAT.md).
 use rules::State;
 
+#[derive(Clone, Copy)]
 pub struct Layout;
 
 impl Layout {

@@ -1,5 +1,6 @@
 // The codes of document 01's lists, in the order in which it gives them. specs/Codes.antt says the same in the definitions.
 
+#[derive(Clone, Copy)]
 pub struct Rights;
 
 impl Rights {
@@ -10,6 +11,7 @@ impl Rights {
     pub const TIP: u8 = 2;
 }
 
+#[derive(Clone, Copy)]
 pub struct Entry;
 
 impl Entry {
@@ -20,6 +22,7 @@ impl Entry {
     pub const TRUNK: u8 = 2;
 }
 
+#[derive(Clone, Copy)]
 pub struct Name;
 
 impl Name {
@@ -34,6 +37,7 @@ impl Name {
     pub const TT: u8 = 4;
 }
 
+#[derive(Clone, Copy)]
 pub struct Phase;
 
 impl Phase {
@@ -56,6 +60,7 @@ impl Phase {
     pub const LEAVING: u8 = 8;
 }
 
+#[derive(Clone, Copy)]
 pub struct Purpose;
 
 impl Purpose {
@@ -69,6 +74,7 @@ impl Purpose {
 }
 
 // The cap of an open probe; a message in slot B has the code of its cap.
+#[derive(Clone, Copy)]
 pub struct Cap;
 
 impl Cap {
@@ -80,6 +86,7 @@ impl Cap {
 }
 
 // No child: an absent requester, an idle release.
+#[derive(Clone, Copy)]
 pub struct Child;
 
 impl Child {
@@ -87,6 +94,7 @@ impl Child {
 }
 
 // The messages, by slot. EMPTY is an empty slot.
+#[derive(Clone, Copy)]
 pub struct Message;
 
 impl Message {

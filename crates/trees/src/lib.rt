@@ -36,12 +36,13 @@ fn parents_ok(count: u8, parents: &[u8; State::NODES]) -> bool
     all_nodes(|k| parent_by(count, parents[k.at], k.number()))
 }
 
-// "node count not 2..16, or, from node 1 upward, a parent not smaller than its node"
+// "node count not 2..16, or, from node 1 upward, a parent not smaller than its node". No test leaves early: so it is compiled into its
+// callers.
 #[tactic(auto, unfolding(rules::specs::Tree::tree_ok))]
 pub fn tree_ok(count: u8, parents: &[u8; State::NODES]) -> bool
     ensures { result ≡ tree_ok count parents.now }
 {
-    State::LEAST <= count && usize::from(count) <= State::NODES && parents_ok(count, parents)
+    (State::LEAST <= count) & (usize::from(count) <= State::NODES) & parents_ok(count, parents)
 }
 
 // k is a node of the tree other than the root, and x is its parent p
