@@ -23,19 +23,19 @@ pub struct Outcome {
     pub config: Config,
 }
 
-impl Outcome {
-    fn said(answer: Answer) -> Outcome
-        ensures { result ≡ outcome_of answer }
-    {
-        Outcome {
-            number: answer.number,
-            value: answer.value,
-            config: Config {
-                state: answer.state,
-            },
-        }
+// The definition's answer, with its configuration type.
+fn outcome_of(answer: Answer) -> Outcome
+    ensures { result ≡ outcome_of answer }
+{
+    let state = answer.state;
+    Outcome {
+        number: answer.number,
+        value: answer.value,
+        config: Config { state },
     }
+}
 
+impl Outcome {
     fn of(answer: Result<u64, Refusal>, state: State) -> Outcome
         ensures { result ≡ outcome_of (answer_said answer state) }
     {
@@ -55,7 +55,7 @@ impl Config {
     {
         match start::started(count, parents, first) {
             Ok(state) => Outcome::of(Ok(0), state),
-            Err(refusal) => Outcome::said(refused(refusal.number(), start::blank_state())),
+            Err(refusal) => outcome_of(refused(refusal.number(), start::blank_state())),
         }
     }
 

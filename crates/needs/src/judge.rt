@@ -1,4 +1,4 @@
-// Numbers 3, 4 and 5: the first that applies, if one does.
+// The first of numbers 1, 3, 4 and 5 that applies, if one does.
 ghost use Rattle.std.specs.Prelude.{◌≡◌};
 ghost use Rattle.needs.specs.Judged.{event_in, turn_in, number_in};
 ghost use Rattle.rules.specs.Events.{other_fits, value_fits, place_fits};

@@ -36,8 +36,8 @@ fn parents_ok(count: u8, parents: &[u8; State::NODES]) -> bool
     all_nodes(|k| parent_by(count, parents[k.at], k.number()))
 }
 
-// "node count not 2..16, or, from node 1 upward, a parent not smaller than its node". No test leaves early: so it is compiled into its
-// callers.
+// "node count not 2..16, or, from node 1 upward, a parent not smaller than its node". No test leaves early, which lets the
+// compiler put it into its callers.
 #[tactic(auto, unfolding(rules::specs::Tree::tree_ok))]
 pub fn tree_ok(count: u8, parents: &[u8; State::NODES]) -> bool
     ensures { result ≡ tree_ok count parents.now }
