@@ -1,15 +1,15 @@
 -- Lines put together from what was written, and how long they are.
 use mathlib.Core.Path.{◌≡◌, refl}
 use mathlib.Core.List.{List, [], ◌∷◌, flat_map}
-use Prim.Native.Nat.{ℕ, suc, ◌+◌, ◌*◌, ◌^◌, ◌<◌, ◌≤◌, zero}
+use Prim.Native.Nat.{ℕ, suc, ◌+◌, ◌*◌, ◌^◌, ◌<◌, ◌≤◌, zero, min}
 use native.Mathlib.Numerals.{add-one}
 use native.Mathlib.Omega.{arith}
-use lib.ListN.{length, length-append}
+use lib.ListN.{length, length-append, get_or-eq_default}
 use Rattle.rules.specs.Names.{name_by}
-use Rattle.octets.specs.Written.{Adds, standing, after}
+use Rattle.octets.specs.Written.{Wrote, Adds, standing, after}
 use Rattle.octets.specs.declared.page.Page.{Page}
 use Rattle.octets.proofs.Pages.{after_last, each_none, adds_wrote}
-use Rattle.lines.specs.Lines.{space, newline, field, asked, line, name_text, name_line, names_by, end_line, bad_line}
+use Rattle.lines.specs.Lines.{space, newline, field, asked, line, name_text, name_texts, name_line, names_by, end_line, bad_line}
 use Rattle.lines.proofs.Decimal.{spelled_short}
 
 -- the names of the first x nodes: none, and one more
@@ -22,6 +22,17 @@ unfolding names_by
 names_more rs es x w = rw add-one (after_last name_text (names_by rs es x) (name_by rs es x) w)
 
 pub ruleset naming = (names_none, names_more)
+
+-- the name of the code k, and no name
+pub name_wrote : {a b : List ℕ} {at r k n : ℕ} → n ≡ k → Wrote a at (name_text k) b r → Wrote a at (name_text n) b r
+name_wrote e f = rw e f
+
+unnamed : (n : ℕ) → 5 ≤ n → name_text n ≡ []
+unfolding name_text
+unnamed n h = get_or-eq_default name_texts [] h
+
+pub unnamed_wrote : (n : ℕ) (a : List ℕ) (at : ℕ) {p : ℕ} → 5 ≤ n → p ≡ min at (length a) → Wrote a at (name_text n) a p
+unnamed_wrote n a at h e = rw (unnamed n h) (record { buffer = refl; next = omega arith })
 
 -- a number below 10 ^ j and what follows it
 field_short : (j n after : ℕ) → 1 ≤ j → n < 10 ^ j → length (field n after) ≤ j + 1

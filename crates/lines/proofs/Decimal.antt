@@ -74,6 +74,9 @@ few n r f h = go (dec_lt 20 r)
 
 -- what the kit's `decimal` leaves in its array is the number's text
 module _ (n r : ℕ) (xs : List ℕ) (k : IsPrefixLen r xs) (f : IsDigitCount 10 1 n r) (h : n < 2 ^ 64) where
+  pub digits_few : length (take r xs) ≤ 20
+  digits_few = omega (arith, few n r f h, k.1)
+
   pub digits_text : take r xs ≡ last_digits 10 r n → take r xs ≡ decimal n
   digits_text e = e ∙ digits_spelled r 20 n (few n r f h) f
 

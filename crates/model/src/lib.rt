@@ -8,7 +8,7 @@ ghost use Rattle.rules.specs.Refusals.{answer_said};
 ghost use Rattle.rules.specs.Step.{reset_of, step_of, onward_of};
 ghost use Rattle.model.specs.Outcomes.{outcome_of};
 
-use rules::{Answer, Event, Refusal, State, told};
+use rules::{Answer, Event, Refusal, State};
 use start::refused;
 
 #[derive(Clone, Copy)]
@@ -39,11 +39,13 @@ impl Outcome {
     fn of(answer: Result<u64, Refusal>, state: State) -> Outcome
         ensures { result ≡ outcome_of (answer_said answer state) }
     {
-        let (number, value) = told(answer);
-        Outcome {
-            number,
-            value,
-            config: Config { state },
+        match answer {
+            Ok(value) => Outcome {
+                number: Answer::ACCEPTED,
+                value,
+                config: Config { state },
+            },
+            Err(refusal) => outcome_of(refused(refusal.number(), state)),
         }
     }
 }
@@ -60,21 +62,19 @@ impl Config {
     }
 
     // The step: numbers 1 to 5, the answer value, and the configuration after it.
-    pub fn step(self, ev: Event) -> Outcome
+    pub fn step(mut self, ev: Event) -> Outcome
         ensures { result ≡ outcome_of (step_of self.state ev) }
     {
-        let mut state = self.state;
-        let done = engine::stepped(&mut state, ev);
-        Outcome::of(done, state)
+        let done = engine::stepped(&mut self.state, ev);
+        Outcome::of(done, self.state)
     }
 
     // The step of a caller whose configuration came from reset by accepted steps: it leaves out the scan for number 2.
-    pub fn onward(self, ev: Event) -> Outcome
+    pub fn onward(mut self, ev: Event) -> Outcome
         ensures { result ≡ outcome_of (onward_of self.state ev) }
     {
-        let mut state = self.state;
-        let gone = engine::onward(&mut state, ev);
-        Outcome::of(gone, state)
+        let gone = engine::onward(&mut self.state, ev);
+        Outcome::of(gone, self.state)
     }
 
     // The name of node x, by its code.

@@ -1,4 +1,4 @@
--- A row past the last.
+-- A row past the last, and a name from what was found of a row.
 use mathlib.Core.Path.{◌≡◌, refl, sym, ◌∙◌}
 use mathlib.Core.Bool.{Bool, true, false, ◌||◌}
 use mathlib.Core.List.{List}
@@ -10,7 +10,7 @@ use Rattle.words.specs.Vocab.{any}
 use Rattle.words.proofs.Facts.{any_same}
 use Rattle.rules.specs.Codes.{node_limit, cells, none}
 use Rattle.rules.specs.Cells.{cell}
-use Rattle.rules.specs.Names.{some_in}
+use Rattle.rules.specs.Names.{name_of, some_in}
 
 -- a test that does not look at the index
 or_same : (b : Bool) → (b || b) ≡ b
@@ -30,3 +30,6 @@ past_rows es x e {v} h l f =
   where
     none_past : (i : ℕ) → cells ≤ i → get_or es i none ≡ none
     none_past i m = let past : length es ≤ i = omega arith in get_or-eq_default es none past
+
+pub named_by : {r r' n : ℕ} {t t' b b' : Bool} → n ≡ name_of r t b → r ≡ r' → t ≡ t' → b ≡ b' → n ≡ name_of r' t' b'
+named_by h p q g = rw (← p, ← q, ← g) h

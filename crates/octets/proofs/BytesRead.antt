@@ -1,11 +1,11 @@
 -- Bytes and numbers read from the rest of a slice, and a number read back from its bytes.
-use mathlib.Core.Path.{◌≡◌, refl}
+use mathlib.Core.Path.{◌≡◌, refl, ◌∙◌, sym}
 use mathlib.Core.List.{List, [], ◌∷◌, ◌++◌}
-use Prim.Native.Nat.{ℕ, zero, suc, ◌+◌, ◌/◌, ◌%◌, ◌^◌, ◌<◌, ◌≤◌}
+use Prim.Native.Nat.{ℕ, zero, suc, ◌+◌, ◌-◌, ◌/◌, ◌%◌, ◌^◌, ◌<◌, ◌≤◌}
 use native.Mathlib.Nat.{zero-add, add_assoc, div-add-mod', div-lt_iff_lt-mul}
 use native.Mathlib.Omega.{arith}
-use lib.ListN.{length, drop, length-append, get_or-append}
-use lib.Seq.{get_or-drop, get_or_at}
+use lib.ListN.{length, take, drop, length-drop, length-append, drop_of_length-le, get_or-eq_default, get_or-append}
+use lib.Seq.{take_all, drop-length, get_or-drop, get_or_at}
 use Rattle.octets.specs.BigEndian.{byte, number, bytes_of}
 
 -- what the rest from `at` on says
@@ -18,6 +18,17 @@ number_rest s at k zero = refl
 number_rest s at k (suc n) = rw (number_rest s at k n, byte_rest s at (k + n), add_assoc)
 
 pub ruleset rests = (byte_rest, number_rest)
+
+-- past the end
+pub byte_missing : (s : List ℕ) (at : ℕ) → length s ≤ at → 0 ≡ byte s at
+byte_missing s at h = sym (get_or-eq_default s 0 h)
+
+-- the part of a slice from `at` on
+pub rest_part : (s : List ℕ) (at : ℕ) → take (length s - at) (drop at s) ≡ drop at s
+rest_part s at = take_all (length s - at) (drop at s) (rw length-drop (omega arith))
+
+pub rest_missing : (s : List ℕ) (at : ℕ) → length s ≤ at → take (length s - length s) (drop (length s) s) ≡ drop at s
+rest_missing s at h = rest_part s (length s) ∙ drop-length s ∙ sym (drop_of_length-le s h)
 
 one_more : 0 < 256
 one_more = omega arith

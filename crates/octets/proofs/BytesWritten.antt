@@ -44,6 +44,10 @@ wrote_then {a} {b} {c} {at} {p} {r} {t} {u} f g =
       next = g.next ∙ rw (f.next, f.buffer, length-sets, length-append) (omega arith);
     }
 
+-- one byte, by a number equal to it
+pub wrote_byte : {a b : List ℕ} {at r x y : ℕ} → x ≡ y → Wrote a at (x ∷ []) b r → Wrote a at (y ∷ []) b r
+wrote_byte e w = rw e at w
+
 -- the bytes that fit, copied at once
 pub put_part : (l t : List ℕ) (i n : ℕ) {k : ℕ} {u : List ℕ} → i ≤ length l → n ≡ min (length t) (length l - i) → k ≡ n → u ≡ take n t → put_mid i k l u ≡ sets l i t
 put_part l t i n h e f g =

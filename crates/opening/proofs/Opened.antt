@@ -45,6 +45,11 @@ module _ (v : ℕ) (s : List ℕ) {b : Bool} (e : b ≡ first_ok v s) (t : b ≡
   pub few_nodes : first_length s ≤ node_limit + 7
   few_nodes = omega (arith, is_first.high, longest_fits v)
 
+-- what reset answers, by what the code handed it
+pub reset_asked_lem : (s : List ℕ) {n v : ℕ} {ps : List ℕ} {a : Answer} → n ≡ count_of s → ps ≡ parents_of s n → v ≡ first_value s → a ≡ reset_of n ps v → a ≡ reset_asked s
+unfolding reset_asked
+reset_asked_lem s e f g h = h ∙ rw (f, e, g)
+
 no_tree : (reset_of 0 (replicate node_limit 0) 0).number ≡ bad_tree
 unfolding reset_of tree_ok choose
 no_tree = refl

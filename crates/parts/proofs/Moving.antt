@@ -36,10 +36,10 @@ use Rattle.needs.specs.Judged.{number_in}
 use Rattle.parts.specs.Parts.{index_of, end_in, moved_of}
 
 module _ (s : State) (e : Event) where
-  abbrev number : ℕ → ℕ → ℕ
+  abbrev pub number : ℕ → ℕ → ℕ
   number x j = number_in s (kind_of e.kind).row (scene_of s x j) x j e
 
-  abbrev answer : ℕ → ℕ → ℕ → Answer
+  abbrev pub answer : ℕ → ℕ → ℕ → Answer
   answer k x j =
       choose (eqb k accepts)
       (accepted ((kind_of e.kind).says (scene_of s x j)) (effect_of (kind_of e.kind) s x j e (scene_of s x j) ((kind_of e.kind).does (scene_of s x j) e)))
@@ -114,7 +114,7 @@ module _ (s : State) (e : Event) where
         gone : link_there (kind_of e.kind).row.end false ≡ false
         gone = not_there (kind_of e.kind).row.end (node s e.node) e.node e.other (let l = inside in omega arith) h
 
-  moved_at : answer s e (number s e x₀ j₀) x₀ j₀ ≡ moved_of s e
+  pub moved_at : answer s e (number s e x₀ j₀) x₀ j₀ ≡ moved_of s e
   unfolding number_in first_of choose event_ok
   moved_at = go (decided (leb s.count node_limit)) (decided (event_ok s e))
     where

@@ -1,8 +1,9 @@
 -- An answer's bytes fill its array.
-use mathlib.Core.Path.{◌≡◌}
+use mathlib.Core.Path.{◌≡◌, ◌∙◌, sym}
+use mathlib.Core.List.{List, map}
 use Prim.Native.Nat.{ℕ}
 use native.Mathlib.Omega.{arith}
-use lib.ListN.{length, length-append}
+use lib.ListN.{length, length-append, length-map}
 use Rattle.rules.specs.declared.State.{State}
 use Rattle.octets.specs.Written.{Wrote, Adds}
 use Rattle.octets.specs.declared.page.Page.{Page}
@@ -11,6 +12,10 @@ use Rattle.octets.proofs.BytesWritten.{wrote_whole}
 use Rattle.octets.proofs.Pages.{adds_wrote}
 use Rattle.records.specs.AnswerBytes.{answer_size, answer_bytes}
 use Rattle.records.proofs.Sizes.{Sized, state_size_lem}
+
+-- an array of structs is as long as the list of their values
+pub mapped_long : (X Y : Type 0) (f : X → Y) (l : List X) (n : ℕ) → length (map f l) ≡ n → length l ≡ n
+mapped_long X Y f l n e = sym (length-map l f) ∙ e
 
 answer_size_lem : (n v : ℕ) (s : State) → Sized s → length (answer_bytes n v s) ≡ answer_size
 unfolding answer_bytes
