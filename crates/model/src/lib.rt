@@ -36,16 +36,16 @@ fn outcome_of(answer: Answer) -> Outcome
 }
 
 impl Outcome {
-    fn of(answer: Result<u64, Refusal>, state: State) -> Outcome
-        ensures { result ≡ outcome_of (answer_said answer state) }
+    fn of(answer: Result<u64, Refusal>, state: &State) -> Outcome
+        ensures { result ≡ outcome_of (answer_said answer state.now) }
     {
         match answer {
             Ok(value) => Outcome {
                 number: Answer::ACCEPTED,
                 value,
-                config: Config { state },
+                config: Config { state: *state },
             },
-            Err(refusal) => outcome_of(refused(refusal.number(), state)),
+            Err(refusal) => outcome_of(refused(refusal.number(), *state)),
         }
     }
 }
@@ -56,7 +56,7 @@ impl Config {
         ensures { result ≡ outcome_of (reset_of count parents first) }
     {
         match start::started(count, parents, first) {
-            Ok(state) => Outcome::of(Ok(0), state),
+            Ok(state) => Outcome::of(Ok(0), &state),
             Err(refusal) => outcome_of(refused(refusal.number(), start::blank_state())),
         }
     }
@@ -66,7 +66,7 @@ impl Config {
         ensures { result ≡ outcome_of (step_of self.state ev) }
     {
         let done = engine::stepped(&mut self.state, ev);
-        Outcome::of(done, self.state)
+        Outcome::of(done, &self.state)
     }
 
     // The step of a caller whose configuration came from reset by accepted steps: it leaves out the scan for number 2.
@@ -74,7 +74,7 @@ impl Config {
         ensures { result ≡ outcome_of (onward_of self.state ev) }
     {
         let gone = engine::onward(&mut self.state, ev);
-        Outcome::of(gone, self.state)
+        Outcome::of(gone, &self.state)
     }
 
     // The name of node x, by its code.
