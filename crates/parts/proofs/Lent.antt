@@ -144,7 +144,7 @@ index_low : (k : ℕ) → index_of k < node_limit
 unfolding index_of
 index_low k = by_test (λ i. i < node_limit) (ltb k node_limit) k 0 (λ h. ltb-true k node_limit h) (λ h. omega arith)
 
--- what `act` promises, part by part: t is what it leaves of s
+-- what `act` promises, part by part: t is what it leaves of s, whose nodes and links are as many as its type says
 pub lands : (s t : State) (e : Event) (q : Result ℕ Refusal) {x j : ℕ} → length s.nodes ≡ node_limit → length s.links ≡ node_limit
     → x ≡ index_of e.node → j ≡ end_in e (node s x) → answer_said q t ≡ moved_of s e
     → Landed (parts_in s.count s.parents s.rights s.entries s.to_probe s.pending (node s x) (link s j) e) t.rights t.entries t.to_probe t.pending
