@@ -36,6 +36,7 @@ fn outcome_of(answer: Answer) -> Outcome
 }
 
 impl Outcome {
+    // What is refused is refused in one place; the state is lent, since each copy of it counts.
     fn of(answer: Result<u64, Refusal>, state: &State) -> Outcome
         ensures { result ≡ outcome_of (answer_said answer state.now) }
     {
